@@ -1,0 +1,2 @@
+-- Bit strings over bytes: the definitions.
+pub mod Strings

@@ -1,0 +1,2 @@
+-- Counting below a number: the definitions.
+pub mod Below

@@ -1,0 +1,139 @@
+-- Ends of borders: the other end, and the walks that cross a set of borders.
+--
+-- other-even, other-odd == the other end of 2e is 2e + 1, and the reverse
+-- other-other, other-border, other-below, other-moves == the other end's other end is the end itself; it is of the same border,
+--                       below 2m with it, and another end
+-- border-below       == the border of an end below 2m is below m
+-- turn-permutes      == entries in range and distinct: the turning list is a permutation
+-- over-over, over-below, walk-permutes == crossing the borders of a set is an involution, and so each walk is a permutation
+-- Assumes nothing.
+use mathlib.Core.Path.{_≡_, refl, sym, ap, _∙_}
+use mathlib.Core.Logic.{_≢_, _⊎_, inl, inr}
+use mathlib.Core.Bool.{Bool, true, false}
+use Prim.Native.Nat.{ℕ, suc, pred, _+_, _*_, _/_, _%_, _<_}
+use native.Mathlib.Omega.{arith}
+use native.Mathlib.Numerals.{add-one, sub-one}
+use lib.Dec.{eqb}
+use borrow.Author.Tests.{eq-eqb, ne-eqb}
+use Rattle.count.specs.Below.{pick}
+use Rattle.count.proofs.Logic.{same-or-not, lt-or-ge, pick-yes, pick-no, true-or-false}
+use Rattle.orbits.specs.Cycles.{Permutes}
+use Rattle.orbits.proofs.Iter.{permutes-involution, permutes-compose}
+use Rattle.drawing.specs.Drawing.{Drawing, borders, ends, border, other, turn, over, walk}
+use Rattle.drawing.specs.Checks.{InRange, Distinct}
+
+-- by the last binary digit of h
+other-at-even : (h : ℕ) → h % 2 ≡ 0 → other h ≡ h + 1
+unfolding other
+other-at-even h e = pick-yes (eqb (h % 2) 0) (suc h) (pred h) (eq-eqb (h % 2) 0 e) ∙ sym (add-one h)
+
+other-at-odd : (h : ℕ) → h % 2 ≢ 0 → other h + 1 ≡ h
+unfolding other
+other-at-odd h e =
+    let f : other h ≡ pred h = pick-no (eqb (h % 2) 0) (suc h) (pred h) (ne-eqb (h % 2) 0 e) in
+    omega (arith, f)
+
+pub other-even : (e : ℕ) → other (2 * e) ≡ 2 * e + 1
+other-even e = other-at-even (2 * e) (omega arith)
+
+pub other-odd : (e : ℕ) → other (2 * e + 1) ≡ 2 * e
+other-odd e =
+    let z : (2 * e + 1) % 2 ≢ 0 = omega arith in
+    omega (arith, other-at-odd (2 * e + 1) z)
+
+-- what is known of the other end, by whether h is even
+pub record Across (h o : ℕ) : Type 0 where
+  pub even : h % 2 ≡ 0 → o ≡ h + 1
+  pub odd : h % 2 ≡ 1 → o + 1 ≡ h
+
+pub across : (h : ℕ) → Across h (other h)
+across h =
+    record {
+      even = other-at-even h;
+      odd = λ e. other-at-odd h (let z : h % 2 ≢ 0 = omega arith in z);
+    }
+
+-- every number is even or odd
+parity : (h : ℕ) → (h % 2 ≡ 0) ⊎ (h % 2 ≡ 1)
+parity h = elim (same-or-not (h % 2) 0) [ inl e ↦ inl e | inr n ↦ inr (omega arith) ]
+
+pub other-border : (h : ℕ) → border (other h) ≡ border h
+unfolding border
+other-border h =
+    elim (parity h) [
+      | inl e ↦ omega (arith, across h .even e)
+      | inr o ↦ omega (arith, across h .odd o)
+    ]
+
+pub other-other : (h : ℕ) → other (other h) ≡ h
+other-other h =
+    elim (parity h) [
+      | inl e ↦
+          let a : other h ≡ h + 1 = across h .even e in
+          let o : other h % 2 ≡ 1 = omega arith in
+          omega (arith, across (other h) .odd o)
+      | inr o ↦
+          let a : other h + 1 ≡ h = across h .odd o in
+          let e : other h % 2 ≡ 0 = omega arith in
+          omega (arith, across (other h) .even e)
+    ]
+
+pub other-moves : (h : ℕ) → other h ≢ h
+other-moves h =
+    elim (parity h) [
+      | inl e ↦ λ q. omega (arith, across h .even e)
+      | inr o ↦ λ q. omega (arith, across h .odd o)
+    ]
+
+pub other-below : (m h : ℕ) → h < 2 * m → other h < 2 * m
+other-below m h b =
+    elim (parity h) [
+      | inl e ↦ omega (arith, across h .even e)
+      | inr o ↦ omega (arith, across h .odd o)
+    ]
+
+pub border-below : (m h : ℕ) → h < 2 * m → border h < m
+unfolding border
+border-below m h b = omega arith
+
+pub turn-permutes : (D : Drawing) → InRange D → Distinct D → Permutes (ends D) (turn D)
+turn-permutes D r d =
+    record {
+      below = r .entries;
+      injective = λ x y bx by e.
+          elim (lt-or-ge x y) [
+            | inl l ↦ absurd (d .differ x y l by e)
+            | inr g ↦
+                elim (same-or-not y x) [
+                  | inl s ↦ sym s
+                  | inr n ↦ absurd (d .differ y x (omega arith) bx (sym e))
+                ]
+          ];
+    }
+
+pub over-yes : (S : ℕ → Bool) (h : ℕ) → S (border h) ≡ true → over S h ≡ other h
+unfolding over
+over-yes S h e = pick-yes (S (border h)) (other h) h e
+
+pub over-no : (S : ℕ → Bool) (h : ℕ) → S (border h) ≡ false → over S h ≡ h
+unfolding over
+over-no S h e = pick-no (S (border h)) (other h) h e
+
+pub over-below : (S : ℕ → Bool) (m h : ℕ) → h < 2 * m → over S h < 2 * m
+over-below S m h b =
+    elim (true-or-false (S (border h))) [
+      | inl e ↦ rw (over-yes S h e) (other-below m h b)
+      | inr e ↦ rw (over-no S h e) b
+    ]
+
+pub over-over : (S : ℕ → Bool) (h : ℕ) → over S (over S h) ≡ h
+over-over S h =
+    elim (true-or-false (S (border h))) [
+      | inl e ↦ ap (over S) (over-yes S h e) ∙ over-yes S (other h) (ap S (other-border h) ∙ e) ∙ other-other h
+      | inr e ↦ ap (over S) (over-no S h e) ∙ over-no S h e
+    ]
+
+pub walk-permutes : (D : Drawing) (S : ℕ → Bool) → Permutes (ends D) (turn D) → Permutes (ends D) (walk D S)
+unfolding walk ends
+walk-permutes D S p =
+    permutes-compose p (permutes-involution (ends D) (over S) (over-below S (borders D)) (λ x b. over-over S x))

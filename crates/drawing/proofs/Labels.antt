@@ -1,0 +1,226 @@
+-- The labels of check 5: at each marked border the labels of its two ends are made one. Two ends have one label at the last
+-- exactly if turns and marked borders lead from one to the other.
+--
+-- label D e h         == the label of end h after the first e borders
+-- label-start         == at first it is the point of h
+-- label-marked, label-unmarked == what one border does to a label
+-- label-keeps         == labels that are one stay one
+-- label-turn          == an end and its entry always have one label
+-- label-linked, linked-label == ends with one label are linked; linked ends have one label at the last
+-- joined-decides      == `joined` decides that the marked borders join all points
+-- Assumes nothing.
+use mathlib.Core.Path.{_≡_, refl, sym, ap, _∙_, subst}
+use mathlib.Core.Logic.{_≢_, _⊎_, inl, inr}
+use mathlib.Core.Bool.{Bool, true, false}
+use mathlib.Core.List.{List, [], _∷_, map}
+use Prim.Native.Nat.{ℕ, zero, suc, _+_, _-_, _*_, _/_, _≤_, _<_}
+use native.Mathlib.Numerals.{add-one}
+use native.Mathlib.Omega.{arith}
+use native.Mathlib.Decide.{le-ind}
+use lib.ListN.{length, getD, length-map, List·getD-map}
+use lib.Dec.{eqb}
+use borrow.Author.Tests.{eq-eqb, ne-eqb}
+use Rattle.count.specs.Below.{Decides, pick, all, table}
+use Rattle.count.proofs.Logic.{same-or-not, true-or-false, pick-yes, pick-no}
+use Rattle.count.proofs.Search.{all-has, all-from}
+use Rattle.count.proofs.Lists.{table-length, table-getD}
+use Rattle.count.proofs.Decides.{decides-eq, decides-all, decides-as}
+use Rattle.orbits.specs.Cycles.{Permutes, SameCycle, low}
+use Rattle.orbits.proofs.Same.{same-cycle-induct}
+use Rattle.orbits.proofs.Low.{low-same-cycle, low-step}
+use Rattle.drawing.specs.Drawing.{Drawing, Cell, borders, ends, border, other, turn, isMarked, around, walk, over, cellOf}
+use Rattle.drawing.specs.Checks.{Linked, here, turned, crossing, Joined, labels, relabel, mergeAt, allSame, joined}
+use Rattle.drawing.proofs.Ends.{other-even, other-odd, other-below, border-below}
+
+unfoldable pub label : Drawing → ℕ → ℕ → ℕ
+label D e h = getD (labels D e) h 0
+
+merge-length : (t : Bool) (e : ℕ) (ls : List ℕ) → length (mergeAt t e ls) ≡ length ls
+merge-length true e ls = length-map ls (λ l. pick (eqb l (getD ls (2 * e) 0)) (getD ls (suc (2 * e)) 0) l)
+merge-length false e ls = refl
+
+labels-length : (D : Drawing) (e : ℕ) → length (labels D e) ≡ ends D
+unfolding labels
+labels-length D zero = table-length (cellOf D Cell.point) (ends D)
+labels-length D (suc e) = merge-length (isMarked D e) e (labels D e) ∙ labels-length D e
+
+-- an entry of a list in which a became b
+relabel-at : (a b : ℕ) (ls : List ℕ) (i : ℕ) → i < length ls → getD (relabel a b ls) i 0 ≡ pick (eqb (getD ls i 0) a) b (getD ls i 0)
+relabel-at a b [] i l = absurd (omega arith)
+relabel-at a b (x ∷ ls) zero l = refl
+relabel-at a b (x ∷ ls) (suc i) l = relabel-at a b ls i (omega arith)
+
+pub label-start : (D : Drawing) (h : ℕ) → h < ends D → label D 0 h ≡ low (ends D) (turn D) h
+unfolding label labels cellOf around walk over
+label-start D h b = table-getD (cellOf D Cell.point) (ends D) h 0 b
+
+pub label-unmarked : (D : Drawing) (e h : ℕ) → isMarked D e ≡ false → label D (e + 1) h ≡ label D e h
+unfolding label labels
+label-unmarked D e h f = rw (add-one e) (ap (λ t. getD (mergeAt t e (labels D e)) h 0) f)
+
+-- what a marked border e makes of the label l of an end, where its ends have labels a and b
+abbrev merged : ℕ → ℕ → ℕ → ℕ
+merged a b l = pick (eqb l a) b l
+
+pub label-marked : (D : Drawing) (e h : ℕ) → isMarked D e ≡ true → h < ends D
+    → label D (e + 1) h ≡ merged (label D e (2 * e)) (label D e (2 * e + 1)) (label D e h)
+unfolding label labels
+label-marked D e h t b =
+    rw (add-one e, add-one (2 * e))
+    (ap (λ u. getD (mergeAt u e (labels D e)) h 0) t
+    ∙ relabel-at (getD (labels D e) (2 * e) 0) (getD (labels D e) (suc (2 * e)) 0) (labels D e) h (rw (labels-length D e) b))
+
+module _ (D : Drawing) where
+  -- labels that are one stay one at the next border
+  label-keeps-step : (e g h : ℕ) → g < ends D → h < ends D → label D e g ≡ label D e h → label D (e + 1) g ≡ label D (e + 1) h
+  label-keeps-step e g h bg bh s =
+      elim (true-or-false (isMarked D e)) [
+        | inl t ↦
+            label-marked D e g t bg
+            ∙ ap (merged (label D e (2 * e)) (label D e (2 * e + 1))) s
+            ∙ sym (label-marked D e h t bh)
+        | inr f ↦ label-unmarked D e g f ∙ s ∙ sym (label-unmarked D e h f)
+      ]
+
+  pub label-keeps : (e k g h : ℕ) → g < ends D → h < ends D → label D e g ≡ label D e h → label D (e + k) g ≡ label D (e + k) h
+  label-keeps e zero g h bg bh s = let z : e + 0 ≡ e = omega arith in rw z s
+  label-keeps e (suc k) g h bg bh s =
+      let z : e + suc k ≡ e + k + 1 = omega arith in
+      rw z (label-keeps-step (e + k) g h bg bh (label-keeps e k g h bg bh s))
+
+  -- after a marked border its two ends have one label
+  label-joins : (e : ℕ) → e < borders D → isMarked D e ≡ true → label D (e + 1) (2 * e) ≡ label D (e + 1) (2 * e + 1)
+  unfolding ends
+  label-joins e l t =
+      let a : ℕ = label D e (2 * e) in
+      let b : ℕ = label D e (2 * e + 1) in
+      label-marked D e (2 * e) t (omega arith)
+      ∙ pick-yes (eqb a a) b a (eq-eqb a a refl)
+      ∙ sym (elim (same-or-not b a) [ inl s ↦ pick-yes (eqb b a) b b (eq-eqb b a s) | inr n ↦ pick-no (eqb b a) b b (ne-eqb b a n) ])
+      ∙ sym (label-marked D e (2 * e + 1) t (omega arith))
+
+  module _ (p : Permutes (ends D) (turn D)) where
+    pub label-turn : (e h : ℕ) → h < ends D → label D e (turn D h) ≡ label D e h
+    label-turn e h b =
+        let start : label D 0 (turn D h) ≡ label D 0 h =
+        label-start D (turn D h) (p .below h b) ∙ low-step p h b ∙ sym (label-start D h b) in
+        let z : 0 + e ≡ e = omega arith in
+        rw z at (label-keeps 0 e (turn D h) h (p .below h b) b start)
+
+    linked-below : (g h : ℕ) → g < ends D → Linked D g h → h < ends D
+    unfolding ends
+    linked-below g h b here = b
+    linked-below g h b (turned x l) = p .below x (linked-below g x b l)
+    linked-below g h b (crossing x t l) = other-below (borders D) x (linked-below g x b l)
+
+    -- across a marked border, at the last
+    label-crosses : (h : ℕ) → h < ends D → isMarked D (border h) ≡ true → label D (borders D) (other h) ≡ label D (borders D) h
+    unfolding ends border
+    label-crosses h b t =
+        let e : ℕ = border h in
+        let l : e < borders D = border-below (borders D) h b in
+        let k : ℕ = borders D - (e + 1) in
+        let z : e + 1 + k ≡ borders D = omega arith in
+        let s : label D (borders D) (2 * e) ≡ label D (borders D) (2 * e + 1) =
+        rw z at (label-keeps (e + 1) k (2 * e) (2 * e + 1) (omega arith) (omega arith) (label-joins e l t)) in
+        elim (same-or-not h (2 * e)) [
+          | inl q ↦ rw (q, other-even e) (sym s)
+          | inr n ↦
+              let q : h ≡ 2 * e + 1 = omega arith in
+              rw (q, other-odd e) s
+        ]
+
+    pub linked-label : (g h : ℕ) → g < ends D → Linked D g h → label D (borders D) g ≡ label D (borders D) h
+    linked-label g h b here = refl
+    linked-label g h b (turned x l) = linked-label g x b l ∙ sym (label-turn (borders D) x (linked-below g x b l))
+    linked-label g h b (crossing x t l) = linked-label g x b l ∙ sym (label-crosses x (linked-below g x b l) t)
+
+    linked-trans : (f g h : ℕ) → Linked D f g → Linked D g h → Linked D f h
+    linked-trans f g h l here = l
+    linked-trans f g h l (turned x k) = turned x (linked-trans f g x l k)
+    linked-trans f g h l (crossing x t k) = crossing x t (linked-trans f g x l k)
+
+    cycle-linked : (g h : ℕ) → g < ends D → SameCycle (turn D) g h → Linked D g h
+    cycle-linked g h b s = same-cycle-induct p (λ x. Linked D g x) g h (λ x bx l. turned x l) b here s
+
+    -- from either end of a marked border to the other
+    across-even : (e : ℕ) → isMarked D e ≡ true → Linked D (2 * e) (2 * e + 1)
+    unfolding border
+    across-even e t =
+        let q : 2 * e / 2 ≡ e = omega arith in
+        rw (other-even e) at (crossing (2 * e) (ap (isMarked D) q ∙ t) here)
+
+    across-odd : (e : ℕ) → isMarked D e ≡ true → Linked D (2 * e + 1) (2 * e)
+    unfolding border
+    across-odd e t =
+        let q : (2 * e + 1) / 2 ≡ e = omega arith in
+        rw (other-odd e) at (crossing (2 * e + 1) (ap (isMarked D) q ∙ t) here)
+
+    -- one marked border more: the labels were one already, or they were those of the border's two ends
+    merge-linked : (e : ℕ) → e < borders D → isMarked D e ≡ true
+        → ((g h : ℕ) → g < ends D → h < ends D → label D e g ≡ label D e h → Linked D g h)
+        → (g h : ℕ) → g < ends D → h < ends D → label D (e + 1) g ≡ label D (e + 1) h → Linked D g h
+    unfolding ends
+    merge-linked e l t before g h bg bh s =
+        let a : ℕ = label D e (2 * e) in
+        let b : ℕ = label D e (2 * e + 1) in
+        let ba : 2 * e < ends D = omega arith in
+        let bb : 2 * e + 1 < ends D = omega arith in
+        let x : ℕ = label D e g in
+        let y : ℕ = label D e h in
+        let m : merged a b x ≡ merged a b y = sym (label-marked D e g t bg) ∙ s ∙ label-marked D e h t bh in
+        elim (same-or-not x a) [
+          | inl xa ↦
+              elim (same-or-not y a) [
+                | inl ya ↦ before g h bg bh (xa ∙ sym ya)
+                | inr ny ↦
+                    let by : b ≡ y = sym (pick-yes (eqb x a) b x (eq-eqb x a xa)) ∙ m ∙ pick-no (eqb y a) b y (ne-eqb y a ny) in
+                    linked-trans g (2 * e) h (before g (2 * e) bg ba xa)
+                    (linked-trans (2 * e) (2 * e + 1) h (across-even e t) (before (2 * e + 1) h bb bh by))
+              ]
+          | inr nx ↦
+              let mx : x ≡ merged a b y = sym (pick-no (eqb x a) b x (ne-eqb x a nx)) ∙ m in
+              elim (same-or-not y a) [
+                | inl ya ↦
+                    let xb : x ≡ b = mx ∙ pick-yes (eqb y a) b y (eq-eqb y a ya) in
+                    linked-trans g (2 * e + 1) h (before g (2 * e + 1) bg bb xb)
+                    (linked-trans (2 * e + 1) (2 * e) h (across-odd e t) (before (2 * e) h ba bh (sym ya)))
+                | inr ny ↦ before g h bg bh (mx ∙ pick-no (eqb y a) b y (ne-eqb y a ny))
+              ]
+        ]
+
+    pub label-linked : (e : ℕ) → e ≤ borders D → (g h : ℕ) → g < ends D → h < ends D → label D e g ≡ label D e h → Linked D g h
+    label-linked zero l g h bg bh s =
+        cycle-linked g h bg (low-same-cycle p g h bg bh (sym (label-start D g bg) ∙ s ∙ label-start D h bh))
+    label-linked (suc e) l g h bg bh s =
+        let before : (g h : ℕ) → g < ends D → h < ends D → label D e g ≡ label D e h → Linked D g h =
+        label-linked e (omega arith) in
+        let s' : label D (e + 1) g ≡ label D (e + 1) h = rw (add-one e) s in
+        elim (true-or-false (isMarked D e)) [
+          | inl t ↦ merge-linked e (omega arith) t before g h bg bh s'
+          | inr f ↦ before g h bg bh (sym (label-unmarked D e g f) ∙ s' ∙ label-unmarked D e h f)
+        ]
+
+-- a list whose entries all equal the first
+all-same-decides : (ls : List ℕ) → Decides (allSame ls) ((i j : ℕ) → i < length ls → j < length ls → getD ls i 0 ≡ getD ls j 0)
+all-same-decides [] = record { sound = λ e i j l. absurd (omega arith); complete = λ f. refl }
+all-same-decides (x ∷ ls) =
+    let first : Decides (allSame (x ∷ ls)) ((i : ℕ) → i < length ls → getD ls i 0 ≡ x) =
+    decides-all (λ i. eqb (getD ls i 0) x) (λ i. getD ls i 0 ≡ x) (length ls) (λ i l. decides-eq (getD ls i 0) x) in
+    decides-as
+    (λ f i j li lj. to-first f i li ∙ sym (to-first f j lj))
+    (λ f i l. f (suc i) 0 (omega arith) (omega arith))
+    first
+  where
+    to-first : ((i : ℕ) → i < length ls → getD ls i 0 ≡ x) → (i : ℕ) → i < suc (length ls) → getD (x ∷ ls) i 0 ≡ x
+    to-first f zero l = refl
+    to-first f (suc i) l = f i (omega arith)
+
+pub joined-decides : (D : Drawing) → Permutes (ends D) (turn D) → Decides (joined D) (Joined D)
+unfolding joined label
+joined-decides D p =
+    let n : length (labels D (borders D)) ≡ ends D = labels-length D (borders D) in
+    decides-as
+    (λ f. record { link = λ g h bg bh. label-linked D p (borders D) (omega arith) g h bg bh (f g h (rw n bg) (rw n bh)) })
+    (λ j g h bg bh. let b : g < ends D = rw n at bg in linked-label D p g h b (j .link g h b (rw n at bh)))
+    (all-same-decides (labels D (borders D)))

@@ -1,0 +1,111 @@
+-- The drawing's book, the reference model: it has only the drawing and its tour (document 01, "The drawing's book").
+--
+-- placeOf D h        == the place that the tour gives end h
+-- lowPosition D c h  == the lowest position among the ends of h's point (area)
+-- isLowest D c h     == whether h's own position is that
+-- numberAt D c h     == the number of h's point (area): 1 for the one with the lowest place, and so on upwards
+-- entryTo D h        == the end whose entry is h
+-- bookAnswer D c i   == the book's answer to the call c at place i
+-- bookSession D i cs == a session on the book
+-- bookFirst, bookSize, bookNeighbours, bookJoining == the book on point and area numbers
+-- Assumes nothing.
+use mathlib.Core.Bool.{Bool, true, false, _&&_}
+use mathlib.Core.List.{List}
+use Prim.Native.Nat.{ℕ, zero, suc, pred}
+use lib.Dec.{eqb, ltb, leb}
+use Rattle.count.specs.Below.{pick, find, count}
+use Rattle.drawing.specs.Drawing.{Drawing, Cell, borders, ends, other, turn, around, cellOf, cells, endAt, positionOf}
+use Rattle.drawing.specs.Session.{Answer, answer, refused, Call, Outcome, session}
+
+-- 01: "its tour, which gives each end its place"
+unfoldable pub placeOf : Drawing → ℕ → ℕ
+unfolding positionOf
+placeOf D h = suc (positionOf D h)
+
+unfoldable pub lowPosition : Drawing → Cell → ℕ → ℕ
+unfolding find cellOf endAt ends
+lowPosition D c h = find (λ p. eqb (cellOf D c (endAt D p)) (cellOf D c h)) (ends D)
+
+unfoldable pub isLowest : Drawing → Cell → ℕ → Bool
+unfolding lowPosition positionOf
+isLowest D c h = eqb (positionOf D h) (lowPosition D c h)
+
+-- 01: "the points are numbered from 1 by their lowest places, lowest first, and the answer is the number of the one h is
+-- on. Area: the same with area walks."
+unfoldable pub numberAt : Drawing → Cell → ℕ → ℕ
+unfolding count lowPosition endAt
+numberAt D c h = suc (count (λ p. eqb (lowPosition D c (endAt D p)) p) (lowPosition D c h))
+
+unfoldable pub entryTo : Drawing → ℕ → ℕ
+unfolding find turn ends
+entryTo D h = find (λ g. eqb (turn D g) h) (ends D)
+
+-- 01: "Cross answers the place of h's other end. Turn answers the place of h's entry, or 0 if that is the lowest place
+-- about the point. Turn back answers the place of the end whose entry is h, or 0 if h's own place is the lowest about the
+-- point. Along answers the place of the entry of h's other end."
+unfoldable pub answerAt : Drawing → Call → ℕ → ℕ
+unfolding placeOf other turn isLowest entryTo around numberAt
+answerAt D Call.cross h = placeOf D (other h)
+answerAt D Call.turn h = pick (isLowest D Cell.point (turn D h)) 0 (placeOf D (turn D h))
+answerAt D Call.turn-back h = pick (isLowest D Cell.point h) 0 (placeOf D (entryTo D h))
+answerAt D Call.along h = placeOf D (around D Cell.area h)
+answerAt D Call.point h = numberAt D Cell.point h
+answerAt D Call.area h = numberAt D Cell.area h
+
+-- 01: "If the place is not 1 to 2m, every call gets 13 and the place stays. Otherwise h is the end at that place."
+unfoldable pub bookAnswer : Drawing → Call → ℕ → Answer ℕ
+unfolding ends answerAt endAt
+bookAnswer D c i = pick (ltb 0 i && leb i (ends D)) (answer (answerAt D c (endAt D (pred i)))) (refused 13)
+
+unfoldable pub bookSession : Drawing → ℕ → List Call → Outcome
+unfolding session bookAnswer
+bookSession D i cs = session (bookAnswer D) i cs
+
+-- 01: "A point number that no point has gets 14, an area number that no area has 15."
+abbrev pub noSuch : Cell → ℕ
+noSuch Cell.point = 14
+noSuch Cell.area = 15
+
+unfoldable pub hasNumber : Drawing → Cell → ℕ → Bool
+unfolding cells
+hasNumber D c k = ltb 0 k && leb k (cells D c)
+
+-- the lowest position on the point (area) k; 2m where there is none
+unfoldable pub firstPosition : Drawing → Cell → ℕ → ℕ
+unfolding find numberAt endAt ends
+firstPosition D c k = find (λ p. eqb (numberAt D c (endAt D p)) k) (ends D)
+
+-- 01: "First place is the lowest on that point or area walk"; under Moves: "Both are 0 if m = 0."
+unfoldable pub bookFirst : Drawing → Cell → ℕ → Answer ℕ
+unfolding hasNumber borders firstPosition
+bookFirst D c k =
+    pick (hasNumber D c k) (answer (pick (eqb (borders D) 0) 0 (suc (firstPosition D c k)))) (refused (noSuch c))
+
+-- 01: "degree and sides count its ends"
+unfoldable pub sizeOf : Drawing → Cell → ℕ → ℕ
+unfolding count numberAt ends
+sizeOf D c k = count (λ h. eqb (numberAt D c h) k) (ends D)
+
+unfoldable pub bookSize : Drawing → Cell → ℕ → Answer ℕ
+unfolding hasNumber sizeOf
+bookSize D c k = pick (hasNumber D c k) (answer (sizeOf D c k)) (refused (noSuch c))
+
+-- 01, Moves: "An area's neighbour count is its number of sides."
+unfoldable pub bookNeighbours : Drawing → ℕ → Answer ℕ
+unfolding bookSize
+bookNeighbours D k = bookSize D Cell.area k
+
+-- the place of the first of k ends from h on, in turning order, whose other end is on point v; 0 where none is
+unfoldable pub joinFrom : Drawing → ℕ → ℕ → ℕ → ℕ
+unfolding numberAt other placeOf turn
+joinFrom D v zero h = 0
+joinFrom D v (suc k) h = elim (eqb (numberAt D Cell.point (other h)) v) [ true ↦ placeOf D h | false ↦ joinFrom D v k (turn D h) ]
+
+-- 01, Moves: "the search stops at the first place about u, in turning order, whose crossing lands at v, and answers that
+-- place. It answers 0 if none does." The book: "once round from the first place of u".
+unfoldable pub bookJoining : Drawing → ℕ → ℕ → Answer ℕ
+unfolding hasNumber joinFrom sizeOf endAt firstPosition
+bookJoining D u v =
+    pick (hasNumber D Cell.point u && hasNumber D Cell.point v)
+    (answer (joinFrom D v (sizeOf D Cell.point u) (endAt D (firstPosition D Cell.point u))))
+    (refused 14)

@@ -1,0 +1,158 @@
+-- Checks 1 and 3 to 7 of packing (document 01, the table), each as a test beside the proposition that it decides. Check 2 is
+-- about the memory lent, and stands with packing.
+--
+-- LengthsFit, lengthsFit == passes 1: the turning list is twice as long as the marks, and at most 4,096
+-- InRange, inRange       == passes 3: entries and start are below 2m, marks are 0 or 1
+-- Distinct, distinct     == passes 4: no two entries are equal
+-- Joined, joined         == passes 5: the marked borders join all points
+-- FewMarks, fewMarks     == passes 6: at most n - 1 borders are marked
+-- Crossing, crosses      == fails 7: two unmarked borders alternate in the tour
+-- PassesSix, PassesSeven == passes 1 to 6, 1 to 7
+-- Assumes nothing.
+use mathlib.Core.Path.{_≡_}
+use mathlib.Core.Logic.{_≢_, _⊎_}
+use mathlib.Core.Bool.{Bool, true, false, not, _&&_}
+use mathlib.Core.List.{List, [], _∷_, map}
+use Prim.Native.Nat.{ℕ, zero, suc, _*_, _<_, _≤_, max}
+use lib.ListN.{length, getD}
+use lib.Dec.{eqb, ltb, leb}
+use Rattle.count.specs.Below.{pick, count, all, any, table}
+use Rattle.drawing.specs.Drawing.{Drawing, Cell, borders, ends, border, other, turn, isMarked, cellOf, cells, endAt}
+
+-- 1: "turning list odd in length or over 4,096, or marks not half as long"
+pub record LengthsFit (D : Drawing) : Type 0 where
+  pub half : length (D .turning) ≡ 2 * length (D .marks)
+  pub most : length (D .turning) ≤ 4096
+
+unfoldable pub lengthsFit : Drawing → Bool
+lengthsFit D = eqb (length (D .turning)) (2 * length (D .marks)) && leb (length (D .turning)) 4096
+
+-- 3: "entry or start not below 2m (m = 0: start not 0), or mark over 1"
+pub record InRange (D : Drawing) : Type 0 where
+  pub entries : (h : ℕ) → h < ends D → turn D h < ends D
+  pub start : D .start < max (ends D) 1
+  pub marks : (e : ℕ) → e < borders D → getD (D .marks) e 0 ≤ 1
+
+unfoldable pub inRange : Drawing → Bool
+unfolding all turn ends borders
+inRange D =
+    all (λ h. ltb (turn D h) (ends D)) (ends D)
+    && ltb (D .start) (max (ends D) 1)
+    && all (λ e. leb (getD (D .marks) e 0) 1) (borders D)
+
+-- 4: "two equal entries in the turning list"
+pub record Distinct (D : Drawing) : Type 0 where
+  pub differ : (i j : ℕ) → i < j → j < ends D → turn D i ≢ turn D j
+
+unfoldable pub distinct : Drawing → Bool
+unfolding all turn ends
+distinct D = all (λ j. all (λ i. not (eqb (turn D i) (turn D j))) j) (ends D)
+
+-- 5: "marked borders don't join all points". From end g one comes to end h by turning about points and crossing marked borders.
+pub data Linked (D : Drawing) (g : ℕ) : ℕ → Type 0 where
+  here : Linked D g g
+  turned : (h : ℕ) → Linked D g h → Linked D g (turn D h)
+  crossing : (h : ℕ) → isMarked D (border h) ≡ true → Linked D g h → Linked D g (other h)
+
+pub record Joined (D : Drawing) : Type 0 where
+  pub link : (g h : ℕ) → g < ends D → h < ends D → Linked D g h
+
+-- The test gives each end its point for a label, and at each marked border makes the labels of its two ends one.
+abbrev pub relabel : ℕ → ℕ → List ℕ → List ℕ
+relabel a b ls = map (λ l. pick (eqb l a) b l) ls
+
+abbrev pub mergeAt : Bool → ℕ → List ℕ → List ℕ
+mergeAt true e ls = relabel (getD ls (2 * e) 0) (getD ls (suc (2 * e)) 0) ls
+mergeAt false e ls = ls
+
+-- the labels after the first e borders
+unfoldable pub labels : Drawing → ℕ → List ℕ
+unfolding table cellOf ends isMarked
+labels D zero = table (cellOf D Cell.point) (ends D)
+labels D (suc e) = mergeAt (isMarked D e) e (labels D e)
+
+abbrev pub allSame : List ℕ → Bool
+allSame [] = true
+allSame (l ∷ ls) = all (λ i. eqb (getD ls i 0) l) (length ls)
+
+unfoldable pub joined : Drawing → Bool
+unfolding labels all borders
+joined D = allSame (labels D (borders D))
+
+-- 6: "they join all points and number more than n-1"
+unfoldable pub markCount : Drawing → ℕ
+unfolding count isMarked borders
+markCount D = count (isMarked D) (borders D)
+
+pub record FewMarks (D : Drawing) : Type 0 where
+  pub fewer : markCount D < cells D Cell.point
+
+unfoldable pub fewMarks : Drawing → Bool
+unfolding markCount cells
+fewMarks D = ltb (markCount D) (cells D Cell.point)
+
+-- 7: "two unmarked borders alternate: a, b, a, b in the tour"
+pub record Alternate (D : Drawing) (a b : ℕ) : Type 0 where
+  pub p : ℕ
+  pub q : ℕ
+  pub r : ℕ
+  pub s : ℕ
+  pub p-q : p < q
+  pub q-r : q < r
+  pub r-s : r < s
+  pub s-end : s < ends D
+  pub at-p : border (endAt D p) ≡ a
+  pub at-q : border (endAt D q) ≡ b
+  pub at-r : border (endAt D r) ≡ a
+  pub at-s : border (endAt D s) ≡ b
+
+pub record Crossing (D : Drawing) (a b : ℕ) : Type 0 where
+  pub first-border : a < borders D
+  pub second-border : b < borders D
+  pub two : a ≢ b
+  pub first-unmarked : isMarked D a ≡ false
+  pub second-unmarked : isMarked D b ≡ false
+  pub alternate : Alternate D a b
+
+-- The test looks for a, b, a, b in order among the borders of the tour: what is left to be found after the borders ys.
+abbrev pub found : ℕ → List ℕ → List ℕ
+found y [] = []
+found y (x ∷ xs) = pick (eqb x y) xs (x ∷ xs)
+
+unfoldable pub missing : List ℕ → List ℕ → List ℕ
+missing [] xs = xs
+missing (y ∷ ys) xs = missing ys (found y xs)
+
+abbrev pub isNone : List ℕ → Bool
+isNone [] = true
+isNone (x ∷ xs) = false
+
+unfoldable pub tourBorders : Drawing → List ℕ
+unfolding table border endAt ends
+tourBorders D = table (λ p. border (endAt D p)) (ends D)
+
+abbrev pub crossesIn : Drawing → List ℕ → ℕ → ℕ → Bool
+crossesIn D tour a b =
+    not (eqb a b) && not (isMarked D a) && not (isMarked D b) && isNone (missing tour (a ∷ b ∷ a ∷ b ∷ []))
+
+unfoldable pub crosses : Drawing → Bool
+unfolding any isMarked missing tourBorders borders
+crosses D =
+    let tour : List ℕ = tourBorders D in
+    any (λ a. any (λ b. crossesIn D tour a b) (borders D)) (borders D)
+
+-- the pair that 7 carries: "two border numbers, smaller first: some pair that alternates"
+pub record CrossingPair (D : Drawing) (a b : ℕ) : Type 0 where
+  pub smaller : a < b
+  pub alternates : Crossing D a b ⊎ Crossing D b a
+
+pub record PassesSix (D : Drawing) : Type 0 where
+  pub lengths : LengthsFit D
+  pub range : InRange D
+  pub entries : Distinct D
+  pub joins : Joined D
+  pub few : FewMarks D
+
+pub record PassesSeven (D : Drawing) : Type 0 where
+  pub six : PassesSix D
+  pub flat : (a b : ℕ) → Crossing D a b → ⊥

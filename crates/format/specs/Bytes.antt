@@ -1,0 +1,128 @@
+-- The bytes of a packed map (document 01, "Tour and packed map"; sources 002 and 000: Turán's three strings).
+--
+-- header, atM, atN   == the header's length and the offsets of its fields
+-- Size               == m and n
+-- sizeIn s           == m and n as the header of s has them
+-- bitsA, bitsB K     == how many bits A, B (round) and B* (square) have
+-- startA, startB, startS, mapLength == where A, B and B* begin, and the length of the whole
+-- longest            == the length of the longest map
+-- part s a e         == the bytes of s from a up to e
+-- wordIn s           == the bracket word that the bytes s hold
+-- stringA w, stringB K w == A, B and B* of a word
+-- bytesOf bits       == bits in bytes from a fresh byte, first bit lowest, unused bits 0
+-- mapBytes z w       == the bytes of the word w with m and n of z
+-- Assumes nothing.
+use mathlib.Core.Bool.{Bool, true, false}
+use mathlib.Core.List.{List, [], _∷_, _++_}
+use Prim.Native.Nat.{ℕ, _+_, _-_, _*_, _/_, _%_}
+use lib.ListN.{length, getD, take, drop}
+use lib.Dec.{eqb}
+use Rattle.count.specs.Below.{pick, table, gather}
+use Rattle.words.specs.Word.{Family, round, square, sameFamily, Letter, Word}
+use Rattle.bits.specs.Strings.{bit, rank, bytesFor}
+
+-- 01: "Bytes: m, then n, each two bytes, low byte first."
+abbrev pub header : ℕ
+header = 4
+
+abbrev pub atM : ℕ
+atM = 0
+
+abbrev pub atN : ℕ
+atN = 2
+
+abbrev pub le16 : ℕ → List ℕ
+le16 x = x % 256 ∷ x / 256 % 256 ∷ []
+
+unfoldable pub le16At : List ℕ → ℕ → ℕ
+le16At s i = getD s i 0 + 256 * getD s (i + 1) 0
+
+pub record Size : Type 0 where
+  pub m : ℕ
+  pub n : ℕ
+
+unfoldable pub sizeIn : List ℕ → Size
+unfolding le16At
+sizeIn s = record { m = le16At s atM; n = le16At s atN }
+
+-- 01: "Then A (2m bits), B (2n-2) and B* (2(m-n+1)), each from a fresh byte"
+abbrev pub bitsA : Size → ℕ
+bitsA z = 2 * z .m
+
+abbrev pub bitsB : Family → Size → ℕ
+bitsB round z = 2 * z .n - 2
+bitsB square z = 2 * (z .m + 1 - z .n)
+
+abbrev pub startA : ℕ
+startA = header
+
+unfoldable pub startB : Family → Size → ℕ
+unfolding bytesFor
+startB round z = startA + bytesFor (bitsA z)
+startB square z = startA + bytesFor (bitsA z) + bytesFor (bitsB round z)
+
+unfoldable pub mapLength : Size → ℕ
+unfolding startB bytesFor
+mapLength z = startB square z + bytesFor (bitsB square z)
+
+-- 01: "The longest map has 1,029 bytes."
+abbrev pub longest : ℕ
+longest = header + 1025
+
+abbrev pub part : List ℕ → ℕ → ℕ → List ℕ
+part s a e = take (e - a) (drop a s)
+
+-- the three strings as they stand in the bytes s
+unfoldable pub partA : List ℕ → List ℕ
+unfolding sizeIn startB
+partA s = part s startA (startB round (sizeIn s))
+
+unfoldable pub partB : Family → List ℕ → List ℕ
+unfolding sizeIn startB mapLength
+partB round s = part s (startB round (sizeIn s)) (startB square (sizeIn s))
+partB square s = part s (startB square (sizeIn s)) (mapLength (sizeIn s))
+
+-- 01: "A: bit i is 1 if place i is of a marked border. B: for the marked places in order, 0 at a border's first place, 1 at
+-- its second. B* is the same for the unmarked ones."
+abbrev pub familyOf : ℕ → Family
+familyOf v = pick (eqb v 1) round square
+
+abbrev pub familyBit : Family → ℕ
+familyBit round = 1
+familyBit square = 0
+
+abbrev pub closingBit : Bool → ℕ
+closingBit true = 1
+closingBit false = 0
+
+-- the letter at position p: A says the family, and the next unread bit of that family's string whether it closes
+abbrev pub letterIn : List ℕ → (Family → List ℕ) → ℕ → Letter
+letterIn A B p =
+    let K : Family = familyOf (bit A p) in
+    record { family = K; closing = eqb (bit (B K) (rank (familyBit K) A p)) 1 }
+
+unfoldable pub wordIn : List ℕ → Word
+unfolding sizeIn partA partB bit rank
+wordIn s = record { size = bitsA (sizeIn s); letter = letterIn (partA s) (λ K. partB K s) }
+
+unfoldable pub stringA : Word → List ℕ
+unfolding table
+stringA w = table (λ p. familyBit (w .letter p .family)) (w .size)
+
+unfoldable pub stringB : Family → Word → List ℕ
+unfolding gather
+stringB K w = gather (λ p. sameFamily K (w .letter p .family)) (λ p. closingBit (w .letter p .closing)) (w .size)
+
+-- the number that up to eight bits make, first bit lowest
+abbrev pub byteOf : List ℕ → ℕ
+byteOf [] = 0
+byteOf (v ∷ bits) = v + 2 * byteOf bits
+
+unfoldable pub bytesOf : List ℕ → List ℕ
+unfolding table bytesFor
+bytesOf bits = table (λ i. byteOf (take 8 (drop (8 * i) bits))) (bytesFor (length bits))
+
+unfoldable pub mapBytes : Size → Word → List ℕ
+unfolding bytesOf stringA stringB
+mapBytes z w =
+    le16 (z .m) ++ (le16 (z .n) ++ (bytesOf (stringA w) ++ (bytesOf (stringB round w) ++ bytesOf (stringB square w))))

@@ -1,0 +1,125 @@
+-- Every call on map bytes, as a total function of the bytes and numbers (document 01, "Moves").
+--
+-- moveIn w c p        == the answer of the call c at position p of the word w
+-- mapAnswer s c i     == the call c at place i of the map s: 8 to 12, 13, then the answer
+-- crossOf, turnOf, turnBackOf, alongOf, pointOf, areaOf == the six, by name
+-- mapSession s i cs   == a session on the map s
+-- firstOf, sizeOf     == first place, and degree or sides, of a point or an area of the map s: 8 to 12, 14 or 15
+-- neighboursOf        == the neighbour count of an area
+-- joiningOf s u v     == the joining border of points u and v
+-- Assumes nothing.
+use mathlib.Core.Bool.{Bool, true, false, _&&_}
+use mathlib.Core.List.{List}
+use Prim.Native.Nat.{ℕ, zero, suc, pred, _+_, _-_}
+use lib.Dec.{eqb, ltb, leb}
+use Rattle.count.specs.Below.{pick}
+use Rattle.words.specs.Brackets.{step, back, number, isFirst, isLast, first, size}
+use Rattle.words.specs.Word.{Family, round, square, Word, seen, crossing}
+use Rattle.drawing.specs.Drawing.{Cell}
+use Rattle.drawing.specs.Session.{Answer, answer, refused, Call, Outcome, session}
+use Rattle.drawing.specs.Book.{noSuch}
+use Rattle.format.specs.Bytes.{Size, sizeIn, wordIn}
+use Rattle.format.specs.Open.{opened}
+
+-- a point is what round brackets enclose, an area is what square brackets enclose
+abbrev pub familyOfCell : Cell → Family
+familyOfCell Cell.point = round
+familyOfCell Cell.area = square
+
+-- 01, Moves: "Cross: the place of the other end. Turn: the next place about the point. It is 0 at the point's last place. Turn
+-- back: the reverse. It is 0 at the point's first place. Along: the next place of the area walk. Point and area of a place."
+unfoldable pub moveIn : Word → Call → ℕ → ℕ
+unfolding seen crossing step back number isFirst isLast
+moveIn w Call.cross p = suc (crossing w p)
+moveIn w Call.turn p = pick (isLast (seen round w) (w .size) p) 0 (suc (step (seen round w) (w .size) p))
+moveIn w Call.turn-back p = pick (isFirst (seen round w) p) 0 (suc (back (seen round w) (w .size) p))
+moveIn w Call.along p = suc (step (seen square w) (w .size) p)
+moveIn w Call.point p = number (seen round w) p
+moveIn w Call.area p = number (seen square w) p
+
+-- 13: "place not 1 to 2m"
+unfoldable pub atPlace : Word → Call → ℕ → Answer ℕ
+unfolding moveIn
+atPlace w c i = pick (ltb 0 i && leb i (w .size)) (answer (moveIn w c (pred i))) (refused 13)
+
+unfoldable pub mapAnswer : List ℕ → Call → ℕ → Answer ℕ
+unfolding opened atPlace wordIn
+mapAnswer s c i = opened s (atPlace (wordIn s) c i)
+
+unfoldable pub crossOf : List ℕ → ℕ → Answer ℕ
+unfolding mapAnswer
+crossOf s i = mapAnswer s Call.cross i
+
+unfoldable pub turnOf : List ℕ → ℕ → Answer ℕ
+unfolding mapAnswer
+turnOf s i = mapAnswer s Call.turn i
+
+unfoldable pub turnBackOf : List ℕ → ℕ → Answer ℕ
+unfolding mapAnswer
+turnBackOf s i = mapAnswer s Call.turn-back i
+
+unfoldable pub alongOf : List ℕ → ℕ → Answer ℕ
+unfolding mapAnswer
+alongOf s i = mapAnswer s Call.along i
+
+unfoldable pub pointOf : List ℕ → ℕ → Answer ℕ
+unfolding mapAnswer
+pointOf s i = mapAnswer s Call.point i
+
+unfoldable pub areaOf : List ℕ → ℕ → Answer ℕ
+unfolding mapAnswer
+areaOf s i = mapAnswer s Call.area i
+
+-- 01: "on the packed map too the place passes from call to call as in the book"
+unfoldable pub mapSession : List ℕ → ℕ → List Call → Outcome
+unfolding session mapAnswer
+mapSession s i cs = session (mapAnswer s) i cs
+
+-- 14: "point not 1 to n"; 15: "area not 1 to m-n+2"
+abbrev pub cellsIn : Size → Cell → ℕ
+cellsIn z Cell.point = z .n
+cellsIn z Cell.area = z .m + 2 - z .n
+
+abbrev pub isNumber : Size → Cell → ℕ → Bool
+isNumber z c k = ltb 0 k && leb k (cellsIn z c)
+
+-- 01, Moves: "First place of a point: 1 for point 1, else the place after the ( that reaches it. First place of an area: its
+-- lowest. Both are 0 if m = 0." The lowest place of a point is the place after the ( that reaches it.
+unfoldable pub firstIn : Word → Cell → ℕ → ℕ
+unfolding first seen
+firstIn w c k = pick (eqb (w .size) 0) 0 (suc (first (seen (familyOfCell c) w) (w .size) k))
+
+unfoldable pub firstOf : List ℕ → Cell → ℕ → Answer ℕ
+unfolding opened sizeIn firstIn wordIn
+firstOf s c k = opened s (pick (isNumber (sizeIn s) c k) (answer (firstIn (wordIn s) c k)) (refused (noSuch c)))
+
+-- 01, Moves: "Degree of a point and sides of an area: how many places have that number."
+unfoldable pub placesIn : Word → Cell → ℕ → ℕ
+unfolding size seen
+placesIn w c k = size (seen (familyOfCell c) w) (w .size) k
+
+unfoldable pub sizeOf : List ℕ → Cell → ℕ → Answer ℕ
+unfolding opened sizeIn placesIn wordIn
+sizeOf s c k = opened s (pick (isNumber (sizeIn s) c k) (answer (placesIn (wordIn s) c k)) (refused (noSuch c)))
+
+-- 01, Moves: "An area's neighbour count is its number of sides."
+unfoldable pub neighboursOf : List ℕ → ℕ → Answer ℕ
+unfolding sizeOf
+neighboursOf s k = sizeOf s Cell.area k
+
+-- the first of k places from position p on, in turning order, whose crossing lands at point v; 0 where none does
+unfoldable pub joinIn : Word → ℕ → ℕ → ℕ → ℕ
+unfolding number seen crossing step
+joinIn w v zero p = 0
+joinIn w v (suc k) p =
+    elim (eqb (number (seen round w) (crossing w p)) v) [ true ↦ suc p | false ↦ joinIn w v k (step (seen round w) (w .size) p) ]
+
+-- 01, Moves: "the search stops at the first place about u, in turning order, whose crossing lands at v, and answers that
+-- place. It answers 0 if none does."
+unfoldable pub joiningOf : List ℕ → ℕ → ℕ → Answer ℕ
+unfolding opened sizeIn joinIn wordIn placesIn first seen
+joiningOf s u v =
+    opened s
+    (pick (isNumber (sizeIn s) Cell.point u && isNumber (sizeIn s) Cell.point v)
+    (answer (joinIn (wordIn s) v (placesIn (wordIn s) Cell.point u) (first (seen round (wordIn s)) (wordIn s .size) u)))
+    (refused 14))

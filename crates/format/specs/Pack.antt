@@ -1,0 +1,80 @@
+-- Packing and unpacking (document 01, "Tour and packed map" and the table).
+--
+-- wordOf D         == the bracket word of the drawing's tour
+-- packedBytes D    == the bytes that packing writes for the drawing
+-- packRefusal D w o == the first of 1 to 7 that applies, with w entries of working list and o bytes of output lent; 0 where none does
+-- packOf D w o     == packing: the map's bytes, or the refusal
+-- endIn w p        == the end that unpacking puts at position p
+-- drawingOf w      == the drawing of a word: borders numbered by their first places, the first place the even end, start 0
+-- unpackOf s t k   == unpacking the map s into lists of t turning entries and k marks
+-- Assumes nothing.
+use mathlib.Core.Bool.{Bool, true, false, not, _&&_}
+use mathlib.Core.List.{List}
+use Prim.Native.Nat.{ℕ, zero, suc, _+_, _*_, _/_}
+use lib.Dec.{eqb, ltb, leb}
+use Rattle.count.specs.Below.{pick, count, find, table}
+use Rattle.words.specs.Brackets.{step}
+use Rattle.words.specs.Word.{Family, round, square, Letter, Word, seen, crossing}
+use Rattle.drawing.specs.Drawing.{Drawing, Cell, borders, ends, border, isMarked, cells, endAt, isSecond}
+use Rattle.drawing.specs.Checks.{lengthsFit, inRange, distinct, joined, fewMarks, crosses}
+use Rattle.drawing.specs.Session.{Answer, answer, refused}
+use Rattle.format.specs.Bytes.{Size, sizeIn, longest, mapBytes, wordIn, familyBit}
+use Rattle.format.specs.Open.{unless, afterRefusal, opened}
+
+unfoldable pub wordOf : Drawing → Word
+unfolding ends isMarked border endAt isSecond
+wordOf D =
+    record {
+      size = ends D;
+      letter = λ p. record { family = pick (isMarked D (border (endAt D p))) round square; closing = isSecond D p };
+    }
+
+unfoldable pub packedBytes : Drawing → List ℕ
+unfolding mapBytes borders cells wordOf
+packedBytes D = mapBytes (record { m = borders D; n = cells D Cell.point }) (wordOf D)
+
+-- 2: "working list under 6m entries, or output under 1,029 bytes"
+abbrev pub roomFits : Drawing → ℕ → ℕ → Bool
+roomFits D work out = leb (6 * borders D) work && leb longest out
+
+-- 01: "Pack uses 1 to 7", in table order
+unfoldable pub packRefusal : Drawing → ℕ → ℕ → ℕ
+unfolding lengthsFit borders inRange distinct joined fewMarks crosses
+packRefusal D work out =
+    unless (lengthsFit D) 1
+    (unless (roomFits D work out) 2
+    (unless (inRange D) 3
+    (unless (distinct D) 4 (unless (joined D) 5 (unless (fewMarks D) 6 (unless (not (crosses D)) 7 0))))))
+
+unfoldable pub packOf : Drawing → ℕ → ℕ → Answer (List ℕ)
+unfolding packRefusal packedBytes
+packOf D work out = afterRefusal (packRefusal D work out) (answer (packedBytes D))
+
+-- 01: "Unpacking numbers borders by their first places. The first place is the even end, the start is 0."
+unfoldable pub opensBefore : Word → ℕ → ℕ
+unfolding count
+opensBefore w p = count (λ q. not (w .letter q .closing)) p
+
+unfoldable pub endIn : Word → ℕ → ℕ
+unfolding opensBefore crossing
+endIn w p = pick (w .letter p .closing) (2 * opensBefore w (crossing w p) + 1) (2 * opensBefore w p)
+
+-- the position at which end h stands
+unfoldable pub positionIn : Word → ℕ → ℕ
+unfolding find endIn
+positionIn w h = find (λ p. eqb (endIn w p) h) (w .size)
+
+unfoldable pub drawingOf : Word → Drawing
+unfolding table endIn positionIn step seen
+drawingOf w =
+    record {
+      turning = table (λ h. endIn w (step (seen round w) (w .size) (positionIn w h))) (w .size);
+      marks = table (λ e. familyBit (w .letter (positionIn w (2 * e)) .family)) (w .size / 2);
+      start = 0;
+    }
+
+-- 16: "unpack: lists under 2m or m entries"
+unfoldable pub unpackOf : List ℕ → ℕ → ℕ → Answer Drawing
+unfolding opened sizeIn drawingOf wordIn
+unpackOf s turnings marks =
+    opened s (pick (leb (2 * sizeIn s .m) turnings && leb (sizeIn s .m) marks) (answer (drawingOf (wordIn s))) (refused 16))

@@ -1,0 +1,2 @@
+-- Permutations of the numbers below a bound: the definitions.
+pub mod Cycles

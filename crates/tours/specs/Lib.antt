@@ -1,0 +1,2 @@
+-- A spanning tree's tour: what is shown of it.
+pub mod Tour

@@ -1,0 +1,3 @@
+-- Bracket words: the definitions.
+pub mod Brackets
+pub mod Word

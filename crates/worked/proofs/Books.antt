@@ -1,0 +1,41 @@
+-- The book against the packed map on small drawings, by computation: every call at every place, and a session. Assumes nothing.
+use mathlib.Core.Path.{_≡_, refl}
+use mathlib.Core.List.{List, [], _∷_}
+use Rattle.drawing.specs.Drawing.{Cell}
+use Rattle.drawing.specs.Session.{Call, answer, refused}
+use Rattle.drawing.specs.Book.{bookSession, bookFirst, bookSize, bookNeighbours, bookJoining}
+use Rattle.format.specs.Calls.{mapSession, firstOf, sizeOf, neighboursOf, joiningOf}
+use Rattle.worked.specs.Cases.{enclave, enclaveMap, triangle, triangleMap}
+
+-- round the outside of the triangle, past the end of a point, and on with a 0
+abbrev calls : List Call
+calls =
+    Call.area ∷ Call.point ∷ Call.along ∷ Call.area ∷ Call.cross ∷ Call.turn-back ∷ Call.along ∷ Call.point ∷ Call.turn ∷ Call.turn ∷ Call.area ∷ []
+
+pub record SmallBooks : Type 0 where
+  pub triangle-session : bookSession triangle 1 calls ≡ mapSession triangleMap 1 calls
+  pub triangle-outside : bookSession triangle 7 calls ≡ mapSession triangleMap 7 calls
+  pub enclave-session : bookSession enclave 2 calls ≡ mapSession enclaveMap 2 calls
+  pub triangle-first : bookFirst triangle Cell.area 2 ≡ firstOf triangleMap Cell.area 2
+  pub triangle-degree : bookSize triangle Cell.point 3 ≡ sizeOf triangleMap Cell.point 3
+  pub triangle-neighbours : bookNeighbours triangle 2 ≡ neighboursOf triangleMap 2
+  pub triangle-joining : bookJoining triangle 1 3 ≡ joiningOf triangleMap 1 3
+  pub triangle-no-loop : bookJoining triangle 2 2 ≡ answer 0
+  pub enclave-loop : bookJoining enclave 1 1 ≡ joiningOf enclaveMap 1 1
+  pub no-area-3 : bookSize triangle Cell.area 3 ≡ refused 15
+
+pub small-books : SmallBooks
+unfolding bookSession mapSession bookFirst firstOf bookSize sizeOf bookNeighbours neighboursOf bookJoining joiningOf
+small-books =
+    record {
+      triangle-session = refl;
+      triangle-outside = refl;
+      enclave-session = refl;
+      triangle-first = refl;
+      triangle-degree = refl;
+      triangle-neighbours = refl;
+      triangle-joining = refl;
+      triangle-no-loop = refl;
+      enclave-loop = refl;
+      no-area-3 = refl;
+    }

@@ -1,0 +1,4 @@
+-- Document 01's examples, by computation.
+pub mod Worked
+pub mod Table
+pub mod Books

@@ -1,0 +1,112 @@
+-- The examples of document 01's table, 1 to 17, and what unpacking gives, by computation. Assumes nothing.
+use mathlib.Core.Path.{_≡_, refl}
+use mathlib.Core.List.{List, [], _∷_}
+use Rattle.drawing.specs.Drawing.{Cell}
+use Rattle.drawing.specs.Session.{answer, refused}
+use Rattle.format.specs.Bytes.{longest}
+use Rattle.format.specs.Calls.{crossOf, firstOf, sizeOf, joiningOf}
+use Rattle.format.specs.Open.{openOf}
+use Rattle.format.specs.Pack.{packOf, unpackOf}
+use Rattle.text.specs.Decimal.{codes}
+use Rattle.text.specs.Input.{readText}
+use Rattle.text.specs.Listing.{placesOf}
+use Rattle.worked.specs.Cases.{drawing, pack, empty, stub, stubMap, enclave, enclaveMap, triangle, triangleMap, figure1, figure1Map}
+
+-- the rows of packing: 1 to 7
+pub record PackRows : Type 0 where
+  pub row-1 : pack (drawing (0 ∷ 1 ∷ 2 ∷ []) (1 ∷ [])) ≡ refused 1
+  pub row-2-output : packOf enclave 6 1028 ≡ refused 2
+  pub row-2-work : packOf enclave 5 longest ≡ refused 2
+  pub row-3 : pack (drawing (0 ∷ 2 ∷ []) (1 ∷ [])) ≡ refused 3
+  pub row-4 : pack (drawing (0 ∷ 0 ∷ []) (1 ∷ [])) ≡ refused 4
+  pub row-5 : pack (drawing (0 ∷ 1 ∷ []) (0 ∷ [])) ≡ refused 5
+  pub row-6 : pack (drawing (1 ∷ 0 ∷ []) (1 ∷ [])) ≡ refused 6
+  pub row-7 : pack (drawing (2 ∷ 3 ∷ 1 ∷ 0 ∷ []) (0 ∷ 0 ∷ [])) ≡ refused 7
+  -- 01: "two interlaced marked loops on one point also tour all ends"
+  pub loops-6 : pack (drawing (2 ∷ 3 ∷ 1 ∷ 0 ∷ []) (1 ∷ 1 ∷ [])) ≡ refused 6
+
+pub pack-rows : PackRows
+unfolding pack packOf
+pack-rows =
+    record {
+      row-1 = refl;
+      row-2-output = refl;
+      row-2-work = refl;
+      row-3 = refl;
+      row-4 = refl;
+      row-5 = refl;
+      row-6 = refl;
+      row-7 = refl;
+      loops-6 = refl;
+    }
+
+-- the rows of calls on map bytes: 8 to 16
+pub record MapRows : Type 0 where
+  pub row-8 : openOf (0x00 ∷ 0x00 ∷ 0x00 ∷ 0x00 ∷ []) ≡ refused 8
+  pub row-9 : openOf (0x00 ∷ 0x00 ∷ 0x01 ∷ 0x00 ∷ 0x05 ∷ []) ≡ refused 9
+  pub row-10 : openOf (0x01 ∷ 0x00 ∷ 0x02 ∷ 0x00 ∷ 0x07 ∷ 0x02 ∷ []) ≡ refused 10
+  pub row-11 : openOf (0x01 ∷ 0x00 ∷ 0x02 ∷ 0x00 ∷ 0x01 ∷ 0x02 ∷ []) ≡ refused 11
+  pub row-12 : openOf (0x01 ∷ 0x00 ∷ 0x02 ∷ 0x00 ∷ 0x03 ∷ 0x01 ∷ []) ≡ refused 12
+  pub row-13 : crossOf stubMap 0 ≡ refused 13
+  pub row-13-high : crossOf stubMap 65537 ≡ refused 13
+  pub row-14 : firstOf stubMap Cell.point 0 ≡ refused 14
+  pub row-14-joining : joiningOf stubMap 1 3 ≡ refused 14
+  pub row-15 : sizeOf stubMap Cell.area 0 ≡ refused 15
+  pub row-16 : unpackOf stubMap 1 1 ≡ refused 16
+
+pub map-rows : MapRows
+unfolding openOf crossOf firstOf joiningOf sizeOf unpackOf
+map-rows =
+    record {
+      row-8 = refl;
+      row-9 = refl;
+      row-10 = refl;
+      row-11 = refl;
+      row-12 = refl;
+      row-13 = refl;
+      row-13-high = refl;
+      row-14 = refl;
+      row-14-joining = refl;
+      row-15 = refl;
+      row-16 = refl;
+    }
+
+-- 17, and the line that `places` prints for a refusal
+pub record TextRows : Type 0 where
+  pub row-17 : readText (codes "\n0 0 1 1\n") ≡ refused 17
+  pub no-line-feed : readText (codes "border first second mark\n0 0 1 1") ≡ refused 17
+  pub leading-zero : readText (codes "border first second mark\n0 00 1 1\n") ≡ refused 17
+  pub wrong-number : readText (codes "border first second mark\n1 0 1 1\n") ≡ refused 17
+  pub too-large : readText (codes "border first second mark\n0 65536 1 1\n") ≡ refused 17
+  pub names-alone : readText (codes "border first second mark\n") ≡ answer empty
+  pub one-border : readText (codes "border first second mark\n0 0 1 1\n") ≡ answer stub
+  pub prints-17 : placesOf [] ≡ codes "refused 17\n"
+  pub prints-5 : placesOf (codes "border first second mark\n0 0 1 0\n") ≡ codes "refused 5\n"
+  pub prints-empty : placesOf (codes "border first second mark\n") ≡ codes "place kind mate node area\n"
+
+pub text-rows : TextRows
+unfolding readText placesOf codes
+text-rows =
+    record {
+      row-17 = refl;
+      no-line-feed = refl;
+      leading-zero = refl;
+      wrong-number = refl;
+      too-large = refl;
+      names-alone = refl;
+      one-border = refl;
+      prints-17 = refl;
+      prints-5 = refl;
+      prints-empty = refl;
+    }
+
+-- unpacking what packing wrote, of drawings that are numbered as unpacking numbers them
+pub record Unpacks : Type 0 where
+  pub unpacks-stub : unpackOf stubMap 2 1 ≡ answer stub
+  pub unpacks-enclave : unpackOf enclaveMap 2 1 ≡ answer enclave
+  pub unpacks-figure : unpackOf figure1Map 28 14 ≡ answer figure1
+  pub unpacks-triangle : unpackOf triangleMap 6 3 ≡ answer triangle
+
+pub unpacks : Unpacks
+unfolding unpackOf
+unpacks = record { unpacks-stub = refl; unpacks-enclave = refl; unpacks-figure = refl; unpacks-triangle = refl }
