@@ -1,2 +1,3 @@
 -- Bit strings over bytes: the definitions.
 pub mod Strings
+pub mod Writes

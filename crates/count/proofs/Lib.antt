@@ -6,3 +6,4 @@ pub mod Rank
 pub mod Below
 pub mod Lists
 pub mod Decides
+pub mod Totals

@@ -2,6 +2,7 @@
 --
 -- table-length, table-getD   == the table has n elements, and its i-th is f i
 -- gather-length, gather-getD == as many elements as numbers have the test, and the j-th is f at the j-th such number
+-- table-same, gather-same    == equal elements, and equal tests, give equal lists
 -- Assumes nothing.
 use mathlib.Core.Path.{_≡_, refl, sym, _∙_, ap}
 use mathlib.Core.Logic.{inl, inr}
@@ -10,10 +11,11 @@ use Prim.Native.Nat.{ℕ, zero, suc, _+_, _<_}
 use native.Mathlib.Numerals.{add-one}
 use native.Mathlib.Omega.{arith}
 use lib.ListN.{length, getD}
+use lib.Seq.{ext-getD}
 use Rattle.count.specs.Below.{count, nth, table, tableFrom, gather, gatherFrom}
 use Rattle.count.proofs.Logic.{true-or-false}
-use Rattle.count.proofs.Counts.{count-zero, count-yes, count-no}
-use Rattle.count.proofs.Rank.{nth-of-count}
+use Rattle.count.proofs.Counts.{count-zero, count-yes, count-no, count-same}
+use Rattle.count.proofs.Rank.{nth-of-count, nth-below, nth-same}
 
 module _ {ℓ} {X : Type ℓ} (f : ℕ → X) where
   from-length : (a k : ℕ) → length (tableFrom f a k) ≡ k
@@ -73,3 +75,20 @@ module _ {ℓ} {X : Type ℓ} (P : ℕ → Bool) (f : ℕ → X) where
   unfolding gather
   gather-getD n j d h =
       gathered-getD 0 n n j j d (omega arith) (omega (arith, count-zero P)) h
+
+pub table-same : (f g : ℕ → ℕ) (n : ℕ) → ((x : ℕ) → x < n → f x ≡ g x) → table f n ≡ table g n
+table-same f g n same =
+    let a = table-length f n in
+    let b = table-length g n in
+    ext-getD 0 (table f n) (table g n) (omega arith)
+    (λ i l. table-getD f n i 0 (omega arith) ∙ same i (omega arith) ∙ sym (table-getD g n i 0 (omega arith)))
+
+pub gather-same : (P Q : ℕ → Bool) (f g : ℕ → ℕ) (n : ℕ) → ((x : ℕ) → x < n → P x ≡ Q x) → ((x : ℕ) → x < n → f x ≡ g x)
+    → gather P f n ≡ gather Q g n
+gather-same P Q f g n tests same =
+    let a = gather-length P f n in
+    let b = gather-length Q g n in
+    let c = count-same P Q n tests in
+    ext-getD 0 (gather P f n) (gather Q g n) (omega arith)
+    (λ j l. gather-getD P f n j 0 (omega arith) ∙ same (nth P j n) (nth-below P j n (omega arith)) ∙ ap g (nth-same P Q j n tests)
+    ∙ sym (gather-getD Q g n j 0 (omega arith)))

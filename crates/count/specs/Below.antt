@@ -3,6 +3,7 @@
 -- Decides t P == the test t holds exactly if the proposition P does
 -- pick t x y  == x where the test t holds, else y
 -- count P n   == how many x < n have P x
+-- total f n   == f 1 + f 2 + .. + f n
 -- all P n     == whether every x < n has P x
 -- any P n     == whether some x < n has P x
 -- find P n    == the least x < n that has P x; n where none has
@@ -14,7 +15,7 @@
 use mathlib.Core.Path.{_≡_}
 use mathlib.Core.Bool.{Bool, true, false, not, _&&_, _||_}
 use mathlib.Core.List.{List, [], _∷_}
-use Prim.Native.Nat.{ℕ, zero, suc}
+use Prim.Native.Nat.{ℕ, zero, suc, _+_}
 use lib.Dec.{eqb}
 
 pub record Decides (t : Bool) (P : Type 0) : Type 0 where
@@ -33,6 +34,10 @@ tick false k = k
 unfoldable pub count : (ℕ → Bool) → ℕ → ℕ
 count P zero = 0
 count P (suc n) = tick (P n) (count P n)
+
+unfoldable pub total : (ℕ → ℕ) → ℕ → ℕ
+total f zero = 0
+total f (suc n) = total f n + f (suc n)
 
 unfoldable pub all : (ℕ → Bool) → ℕ → Bool
 all P zero = true

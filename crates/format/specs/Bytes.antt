@@ -1,5 +1,6 @@
 -- The bytes of a packed map (document 01, "Tour and packed map"; sources 002 and 000: Turán's three strings).
 --
+-- EachBelow k s      == every entry of s is below k: 2 for a list of bits, 256 for a byte string
 -- header, atM, atN   == the header's length and the offsets of its fields
 -- Size               == m and n
 -- sizeIn s           == m and n as the header of s has them
@@ -14,12 +15,15 @@
 -- Assumes nothing.
 use mathlib.Core.Bool.{Bool, true, false}
 use mathlib.Core.List.{List, [], _∷_, _++_}
-use Prim.Native.Nat.{ℕ, _+_, _-_, _*_, _/_, _%_}
+use Prim.Native.Nat.{ℕ, _+_, _-_, _*_, _/_, _%_, _<_}
 use lib.ListN.{length, getD, take, drop}
 use lib.Dec.{eqb}
 use Rattle.count.specs.Below.{pick, table, gather}
 use Rattle.words.specs.Word.{Family, round, square, sameFamily, Letter, Word}
 use Rattle.bits.specs.Strings.{bit, rank, bytesFor}
+
+abbrev pub EachBelow : ℕ → List ℕ → Type 0
+EachBelow k s = (i : ℕ) → getD s i 0 < k
 
 -- 01: "Bytes: m, then n, each two bytes, low byte first."
 abbrev pub header : ℕ

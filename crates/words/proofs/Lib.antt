@@ -10,3 +10,4 @@ pub mod Numbers
 pub mod Points
 pub mod Sizes
 pub mod Same
+pub mod Thin

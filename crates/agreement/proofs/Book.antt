@@ -1,0 +1,146 @@
+-- The book's answers are the word's: every call at every number, every session, and every number of a point or an area.
+--
+-- isNumbered D c k == whether k is one of the numbers 1 to 1 + the openings of c's family in D's word
+-- answer-agrees  == the answer of a call at the end at position p
+-- book-call      == the answer of a call at any number, refusals included
+-- session-same   == sessions are alike where all answers are
+-- book-session   == so is every session
+-- join-agrees    == the search for a joining border
+-- has-number     == the points (areas) have these numbers and no others
+-- book-first, book-size, book-neighbours, book-joining == the book on point and area numbers, refusals included
+-- Assumes nothing.
+use mathlib.Core.Path.{_≡_, refl, sym, ap, ap₂, _∙_}
+use mathlib.Core.Logic.{inl, inr}
+use mathlib.Core.Bool.{Bool, true, false, _&&_}
+use mathlib.Core.List.{List, [], _∷_}
+use Prim.Native.Nat.{ℕ, zero, suc, pred, _+_, _<_, _≤_}
+use native.Mathlib.Omega.{arith}
+use lib.Dec.{eqb, ltb, leb}
+use borrow.Author.Tests.{eqb-true, eq-eqb, ltb-true, leb-true}
+use Rattle.count.specs.Below.{pick}
+use Rattle.count.proofs.Logic.{lt-or-ge, true-or-false, both-left, both-right, bool-same}
+use Rattle.count.proofs.Below.{find-not, count-none}
+use Rattle.words.specs.Brackets.{Bracket, step, number, first, size}
+use Rattle.words.specs.Word.{round, seen, crossing}
+use Rattle.words.proofs.Step.{step-below}
+use Rattle.words.proofs.Numbers.{openings}
+use Rattle.drawing.specs.Drawing.{Drawing, Cell, borders, ends, other, turn, endAt, positionOf}
+use Rattle.drawing.specs.Session.{Answer, answer, refused, Call, placeAfter, session}
+use Rattle.drawing.specs.Book.{placeOf, numberAt, answerAt, bookAnswer, bookSession, noSuch, hasNumber, firstPosition, sizeOf, joinFrom}
+use Rattle.drawing.specs.Book.{bookFirst, bookSize, bookNeighbours, bookJoining}
+use Rattle.format.specs.Pack.{wordOf}
+use Rattle.format.specs.Calls.{moveIn, atPlace, firstIn, placesIn, joinIn}
+use Rattle.agreement.specs.Toured.{Toured}
+use Rattle.agreement.proofs.Positions.{partner, end-other, partner-below}
+use Rattle.agreement.proofs.Nesting.{word-balanced, cross-mate}
+use Rattle.agreement.proofs.Steps.{cellWord, around-step, turn-around, turn-end, entry-back}
+use Rattle.agreement.proofs.Cells.{number-agrees, lowest-agrees, turn-lowest, first-agrees, size-agrees}
+use Rattle.agreement.proofs.Counts.{cells-agree}
+
+abbrev pub isNumbered : Drawing → Cell → ℕ → Bool
+isNumbered D c k = ltb 0 k && leb k (1 + openings (cellWord D c) (ends D))
+
+pub session-same : (f g : Call → ℕ → Answer ℕ) → ((c : Call) (i : ℕ) → f c i ≡ g c i) → (i : ℕ) (cs : List Call) → session f i cs ≡ session g i cs
+unfolding session
+session-same f g same i [] = refl
+session-same f g same i (c ∷ cs) = rw (same c i, session-same f g same (placeAfter c (g c i) i) cs)
+
+-- no borders, no ends
+no-borders : (D : Drawing) → eqb (borders D) 0 ≡ eqb (ends D) 0
+unfolding ends
+no-borders D =
+    bool-same (eqb (borders D) 0) (eqb (ends D) 0)
+    (λ t. let z : borders D ≡ 0 = eqb-true (borders D) 0 t in eq-eqb (ends D) 0 (omega arith))
+    (λ t. let z : ends D ≡ 0 = eqb-true (ends D) 0 t in eq-eqb (borders D) 0 (omega arith))
+
+-- a point number without a first place has no places
+no-places : (D : Drawing) (k : ℕ) → ends D ≤ first (seen round (wordOf D)) (ends D) k → placesIn (wordOf D) Cell.point k ≡ 0
+unfolding placesIn size first wordOf
+no-places D k g =
+    let has : ℕ → Bool = λ p. eqb (number (seen round (wordOf D)) p) k in
+    count-none has (ends D) (λ p l. find-not has (ends D) p (omega arith))
+
+-- a search of no places finds nothing
+no-search : (D : Drawing) (v h p : ℕ) → joinFrom D v 0 h ≡ joinIn (wordOf D) v 0 p
+unfolding joinFrom joinIn
+no-search D v h p = refl
+
+module _ {D : Drawing} (T : Toured D) where
+  pub answer-agrees : (c : Call) (p : ℕ) → p < ends D → answerAt D c (endAt D p) ≡ moveIn (wordOf D) c p
+  unfolding answerAt moveIn wordOf
+  answer-agrees Call.cross p l = ap suc (cross-mate T p l)
+  answer-agrees Call.turn p l =
+      ap₂ (λ (t : Bool) (x : ℕ). pick t 0 (suc x)) (turn-lowest T p l) (ap (positionOf D) (turn-around D (endAt D p)) ∙ around-step T Cell.point p l)
+  answer-agrees Call.turn-back p l = ap₂ (λ (t : Bool) (x : ℕ). pick t 0 (suc x)) (lowest-agrees T Cell.point p l) (entry-back T p l)
+  answer-agrees Call.along p l = ap suc (around-step T Cell.area p l)
+  answer-agrees Call.point p l = number-agrees T Cell.point p l
+  answer-agrees Call.area p l = number-agrees T Cell.area p l
+
+  pub book-call : (c : Call) (i : ℕ) → bookAnswer D c i ≡ atPlace (wordOf D) c i
+  unfolding bookAnswer atPlace wordOf
+  book-call c i =
+      elim (true-or-false (ltb 0 i && leb i (ends D))) [
+        | inl t ↦
+            let low : 0 < i = ltb-true 0 i (both-left (ltb 0 i) (leb i (ends D)) t) in
+            let high : i ≤ ends D = leb-true i (ends D) (both-right (ltb 0 i) (leb i (ends D)) t) in
+            ap (λ (x : ℕ). pick (ltb 0 i && leb i (ends D)) (answer x) (refused 13)) (answer-agrees c (pred i) (omega arith))
+        | inr f ↦ rw f
+      ]
+
+  pub book-session : (i : ℕ) (cs : List Call) → bookSession D i cs ≡ session (atPlace (wordOf D)) i cs
+  unfolding bookSession
+  book-session i cs = session-same (bookAnswer D) (atPlace (wordOf D)) book-call i cs
+
+  pub join-agrees : (v j p : ℕ) → p < ends D → joinFrom D v j (endAt D p) ≡ joinIn (wordOf D) v j p
+  unfolding joinFrom joinIn wordOf
+  join-agrees v zero p l = refl
+  join-agrees v (suc j) p l =
+      let b : ℕ → Bracket = seen round (wordOf D) in
+      let lands : numberAt D Cell.point (other (endAt D p)) ≡ number b (crossing (wordOf D) p)
+      = ap (numberAt D Cell.point) (sym (end-other T p l)) ∙ number-agrees T Cell.point (partner D p) (partner-below T p l)
+      ∙ ap (number b) (cross-mate T p l) in
+      let here : placeOf D (endAt D p) ≡ suc p = ap suc (T .meets .position-end p l) in
+      let rest : joinFrom D v j (turn D (endAt D p)) ≡ joinIn (wordOf D) v j (step b (ends D) p)
+      = ap (joinFrom D v j) (turn-end T p l)
+      ∙ join-agrees v j (step b (ends D) p) (step-below b (ends D) (word-balanced T round) p l) in
+      λ i. elim (eqb (lands i) v) [ true ↦ here i | false ↦ rest i ]
+
+  -- from the first place of point u once round; where there is no such point nothing is looked at
+  join-round : (u v : ℕ) → joinFrom D v (sizeOf D Cell.point u) (endAt D (firstPosition D Cell.point u))
+      ≡ joinIn (wordOf D) v (placesIn (wordOf D) Cell.point u) (first (seen round (wordOf D)) (ends D) u)
+  join-round u v =
+      let b : ℕ → Bracket = seen round (wordOf D) in
+      rw (size-agrees T Cell.point u, first-agrees T Cell.point u) (
+      elim (lt-or-ge (first b (ends D) u) (ends D)) [
+        | inl l ↦ join-agrees v (placesIn (wordOf D) Cell.point u) (first b (ends D) u) l
+        | inr g ↦ rw (no-places D u g) (no-search D v (endAt D (first b (ends D) u)) (first b (ends D) u))
+      ])
+
+  pub has-number : (c : Cell) (k : ℕ) → hasNumber D c k ≡ isNumbered D c k
+  unfolding hasNumber
+  has-number c k = ap (λ (n : ℕ). ltb 0 k && leb k n) (cells-agree T c)
+
+  pub book-first : (c : Cell) (k : ℕ) → bookFirst D c k ≡ pick (isNumbered D c k) (answer (firstIn (wordOf D) c k)) (refused (noSuch c))
+  unfolding bookFirst firstIn wordOf
+  book-first c k =
+      let place : pick (eqb (borders D) 0) 0 (suc (firstPosition D c k)) ≡ pick (eqb (ends D) 0) 0 (suc (first (cellWord D c) (ends D) k))
+      = ap₂ (λ (t : Bool) (x : ℕ). pick t 0 (suc x)) (no-borders D) (first-agrees T c k) in
+      ap₂ (λ (t : Bool) (x : ℕ). pick t (answer x) (refused (noSuch c))) (has-number c k) place
+
+  pub book-size : (c : Cell) (k : ℕ) → bookSize D c k ≡ pick (isNumbered D c k) (answer (placesIn (wordOf D) c k)) (refused (noSuch c))
+  unfolding bookSize
+  book-size c k = ap₂ (λ (t : Bool) (x : ℕ). pick t (answer x) (refused (noSuch c))) (has-number c k) (size-agrees T c k)
+
+  pub book-neighbours : (k : ℕ) → bookNeighbours D k ≡ pick (isNumbered D Cell.area k) (answer (placesIn (wordOf D) Cell.area k)) (refused 15)
+  unfolding bookNeighbours
+  book-neighbours k = book-size Cell.area k
+
+  pub book-joining : (u v : ℕ)
+      → bookJoining D u v
+      ≡ pick (isNumbered D Cell.point u && isNumbered D Cell.point v)
+      (answer (joinIn (wordOf D) v (placesIn (wordOf D) Cell.point u) (first (seen round (wordOf D)) (ends D) u)))
+      (refused 14)
+  unfolding bookJoining
+  book-joining u v =
+      ap₂ (λ (t : Bool) (x : ℕ). pick t (answer x) (refused 14))
+      (ap₂ (λ (s t : Bool). s && t) (has-number Cell.point u) (has-number Cell.point v)) (join-round u v)

@@ -1,0 +1,7 @@
+-- The drawing's book and the bracket word of its tour agree: the laws.
+pub mod Positions
+pub mod Nesting
+pub mod Steps
+pub mod Cells
+pub mod Counts
+pub mod Book

@@ -1,0 +1,156 @@
+-- What a string holds after a bit was set, and a list after its first entries were cleared.
+--
+-- set-bit-length, cleared-length == the length stays
+-- set-bit-past     == nothing changes where the bit is past the end
+-- set-bit-here     == the bit that was set is the new one
+-- set-bit-other    == every other bit is as before
+-- cleared-first, cleared-rest == the first k entries are 0, the others as before
+-- turned-.., kept-.. == what changes one byte, and that it fits
+-- Filled old n i l == l is old with its first i entries 0, on the way to n of them
+-- Assumes nothing.
+use mathlib.Core.Path.{_≡_, refl, sym, ap, _∙_}
+use mathlib.Core.Logic.{_≢_, inl, inr}
+use mathlib.Core.Bool.{Bool, true, false}
+use mathlib.Core.List.{List, _++_}
+use Prim.Native.Nat.{ℕ, _+_, _-_, _*_, _/_, _%_, _^_, _<_, _≤_, min}
+use native.Mathlib.Nat.{one-mul}
+use native.Mathlib.Omega.{arith}
+use borrow.Author.Fill.{fill-none, fill-more}
+use borrow.Author.Needs.{needs}
+use lib.ListN.{length, getD, set, drop, replicate, length-set, length-append, length-replicate, length-drop, getD-replicate, drop-of-length-le, List·getD-append, List·getD-eq-default}
+use lib.Pow.{shl-exact}
+use lib.Seq.{set-out, getD-set-same, getD-set-other, getD-append-add, getD-drop}
+use mir.Syntax.{w8}
+use mir.Val.{Fits}
+use Rattle.count.specs.Below.{pick}
+use Rattle.count.proofs.Logic.{same-or-not, lt-or-ge}
+use Rattle.bits.specs.Strings.{bit}
+use Rattle.bits.specs.Writes.{withBit, setBit, cleared}
+use Rattle.bits.proofs.Digits.{with-bit-here, with-bit-other, with-bit-below, with-bit-same, with-bit-on, with-bit-off}
+
+module _ (s : List ℕ) (i : ℕ) (v : Bool) where
+  pub set-bit-length : length (setBit s i v) ≡ length s
+  unfolding setBit
+  set-bit-length = length-set s (i / 8) (withBit (getD s (i / 8) 0) (i % 8) v)
+
+  pub set-bit-past : length s ≤ i / 8 → setBit s i v ≡ s
+  unfolding setBit
+  set-bit-past l = set-out s (i / 8) (withBit (getD s (i / 8) 0) (i % 8) v) l
+
+  pub set-bit-here : i / 8 < length s → bit (setBit s i v) i ≡ pick v 1 0
+  unfolding setBit bit
+  set-bit-here l =
+      rw (getD-set-same s (i / 8) (withBit (getD s (i / 8) 0) (i % 8) v) 0 l) (with-bit-here (getD s (i / 8) 0) (i % 8) v)
+
+  in-same-byte : (j : ℕ) → j ≢ i → j / 8 ≡ i / 8 → i / 8 < length s → bit (setBit s i v) j ≡ bit s j
+  unfolding setBit bit
+  in-same-byte j n e l =
+      rw (e, getD-set-same s (i / 8) (withBit (getD s (i / 8) 0) (i % 8) v) 0 l)
+      (with-bit-other (getD s (i / 8) 0) (i % 8) v (j % 8) (omega arith))
+
+  in-other-byte : (j : ℕ) → j / 8 ≢ i / 8 → bit (setBit s i v) j ≡ bit s j
+  unfolding setBit bit
+  in-other-byte j n =
+      ap (λ x. x / 2 ^ (j % 8) % 2) (getD-set-other s (i / 8) (j / 8) (withBit (getD s (i / 8) 0) (i % 8) v) 0 n)
+
+  pub set-bit-other : (j : ℕ) → j ≢ i → bit (setBit s i v) j ≡ bit s j
+  set-bit-other j n =
+      elim (lt-or-ge (i / 8) (length s)) [
+        | inl l ↦ elim (same-or-not (j / 8) (i / 8)) [ inl e ↦ in-same-byte j n e l | inr d ↦ in-other-byte j d ]
+        | inr g ↦ ap (λ t. bit t j) (set-bit-past g)
+      ]
+
+pub one-shifted : (r : ℕ) → r < 8 → 1 * 2 ^ r % 256 ≡ 2 ^ r
+one-shifted r l = shl-exact 1 r 8 (omega arith) (omega arith) ∙ one-mul (2 ^ r)
+
+-- a digit d of x that was read, and the byte with digit r made v
+module _ (x r d : ℕ) (v : Bool) where
+  pub turned-on : r < 8 → d ≡ x / 2 ^ r % 2 → d ≡ 0 → v ≡ true → x + 1 * 2 ^ r % 256 ≡ withBit x r v
+  turned-on l h e t = rw (one-shifted r l, t) (sym (with-bit-on x r (sym h ∙ e)))
+
+  pub turned-on-fits : Fits w8 x → r < 8 → d ≡ x / 2 ^ r % 2 → d ≡ 0 → Fits w8 (x + 1 * 2 ^ r % 256)
+  turned-on-fits f l h e = record { fits = rw (one-shifted r l, ← with-bit-on x r (sym h ∙ e)) (with-bit-below x r true 8 (f .fits) l) }
+
+  pub kept-on : d ≡ x / 2 ^ r % 2 → (d ≡ 0 → ⊥) → v ≡ true → x ≡ withBit x r v
+  kept-on h n t = sym (with-bit-same x r v (rw t (omega arith)))
+
+  pub kept-off : d ≡ x / 2 ^ r % 2 → d ≡ 0 → v ≡ false → x ≡ withBit x r v
+  kept-off h e t = sym (with-bit-same x r v (rw t (omega arith)))
+
+  pub turned-off : r < 8 → d ≡ x / 2 ^ r % 2 → (d ≡ 0 → ⊥) → v ≡ false → x - 1 * 2 ^ r % 256 ≡ withBit x r v
+  turned-off l h n t = rw (one-shifted r l, t) (omega (arith, with-bit-off x r (λ e. n (h ∙ e))))
+
+  pub turned-off-fits : r < 8 → d ≡ x / 2 ^ r % 2 → (d ≡ 0 → ⊥) → 1 * 2 ^ r % 256 ≤ x
+  turned-off-fits l h n = rw (one-shifted r l) (omega (arith, with-bit-off x r (λ e. n (h ∙ e))))
+
+pub ruleset with-bit-all = (turned-on, turned-on-fits, kept-on, kept-off, turned-off, turned-off-fits, needs)
+
+pub stored : (s : List ℕ) (i y : ℕ) (v : Bool) → y ≡ withBit (getD s (i / 8) 0) (i % 8) v → set s (i / 8) y ≡ setBit s i v
+unfolding setBit
+stored s i y v e = ap (set s (i / 8)) e
+
+pub stored-past : (s : List ℕ) (i : ℕ) (v : Bool) → length s ≤ i / 8 → s ≡ setBit s i v
+stored-past s i v l = sym (set-bit-past s i v l)
+
+pub ruleset set-bit-all = (stored, stored-past, needs)
+
+abbrev zeros : ℕ → List ℕ
+zeros n = replicate n 0
+
+zeros-length : (n : ℕ) → length (zeros n) ≡ n
+zeros-length n = length-replicate n 0
+
+pub cleared-length : (k : ℕ) (l : List ℕ) → length (cleared k l) ≡ length l
+unfolding cleared
+cleared-length k l = simp (length-append, length-replicate, length-drop) (omega arith)
+
+pub cleared-first : (k : ℕ) (l : List ℕ) (i : ℕ) → i < k → getD (cleared k l) i 0 ≡ 0
+unfolding cleared
+cleared-first k l i h =
+    elim (lt-or-ge i (min k (length l))) [
+      | inl m ↦
+          List·getD-append (zeros (min k (length l))) (drop k l) 0 i (omega (arith, zeros-length (min k (length l))))
+          ∙ getD-replicate (min k (length l)) i 0 0 m
+      | inr g ↦ List·getD-eq-default (cleared k l) 0 (omega (arith, cleared-length k l))
+    ]
+
+pub cleared-rest : (k : ℕ) (l : List ℕ) (i : ℕ) → k ≤ i → getD (cleared k l) i 0 ≡ getD l i 0
+unfolding cleared
+cleared-rest k l i h =
+    elim (lt-or-ge (length l) k) [
+      | inl m ↦ List·getD-eq-default (cleared k l) 0 (omega (arith, cleared-length k l)) ∙ sym (List·getD-eq-default l 0 (omega arith))
+      | inr g ↦
+          let e : min k (length l) ≡ k = omega arith in
+          let f : length (zeros k) + (i - k) ≡ i = omega (arith, zeros-length k) in
+          let q : k + (i - k) ≡ i = omega arith in
+          rw e (rw f at (getD-append-add (zeros k) (drop k l) (i - k) 0) ∙ getD-drop k l (i - k) 0 ∙ ap (λ x. getD l x 0) q)
+    ]
+
+pub record Filled (old : List ℕ) (n i : ℕ) (l : List ℕ) : Type 0 where
+  pub within : i ≤ n
+  pub same-length : length l ≡ length old
+  pub is : l ≡ replicate i 0 ++ drop i old
+
+pub filled-start : (old : List ℕ) (n : ℕ) → Filled old n 0 old
+filled-start old n = record { within = omega arith; same-length = refl; is = fill-none old 0 }
+
+pub filled-more : (old : List ℕ) (n i k : ℕ) (l : List ℕ) → Filled old n i l → i < n → n ≡ min k (length old) → Filled old n (i + 1) (set l i 0)
+filled-more old n i k l F h m =
+    record {
+      within = omega arith;
+      same-length = length-set l i 0 ∙ F .same-length;
+      is = ap (λ x. set x i 0) (F .is) ∙ fill-more i 0 old (omega arith);
+    }
+
+pub filled-end : (old : List ℕ) (n i k : ℕ) (l : List ℕ) → Filled old n i l → n ≤ i → n ≡ min k (length old) → l ≡ cleared k old
+unfolding cleared
+filled-end old n i k l F h m =
+    let e : i ≡ min k (length old) = omega (arith, F .within) in
+    let d : drop i old ≡ drop k old =
+    elim (lt-or-ge (length old) k) [
+      | inl g ↦ drop-of-length-le old {i = i} (omega arith) ∙ sym (drop-of-length-le old {i = k} (omega arith))
+      | inr g ↦ let q : i ≡ k = omega arith in ap (λ x. drop x old) q
+    ] in
+    F .is ∙ rw (d, e)
+
+pub ruleset clear-all = (filled-start, filled-more, filled-end, needs)

@@ -1,0 +1,51 @@
+// Writing to lent memory: one bit, a run of zeros.
+use crate::read::digit;
+ghost use mathlib.Core.Path.{_≡_};
+ghost use Prim.Native.Nat.{_<_, min};
+ghost use Rattle.bits.specs.Writes.{withBit, setBit, cleared};
+
+// Makes bit i be v. Nothing changes where i is past the end.
+pub fn set_bit(s: &mut [u8], i: usize, v: bool)
+    ensures { λ _. ⌜ now (s .exit) ≡ setBit (now (s .entry)) i v ⌝ }
+{
+    let k = i / 8;
+    if k < s.len() {
+        s[k] = with_bit(s[k], i % 8, v);
+    }
+}
+
+// Makes the first k entries 0, all of them where there are fewer.
+pub fn clear(s: &mut [u16], k: usize)
+    ensures { λ _. ⌜ now (s .exit) ≡ cleared k (now (s .entry)) ⌝ }
+{
+    let n = least(k, s.len());
+    let mut i = 0;
+    while i < n {
+        s[i] = 0;
+        i += 1;
+    }
+}
+
+// The byte x with bit r made v.
+fn with_bit(x: u8, r: usize, v: bool) -> u8
+    requires { ⌜ r < 8 ⌝ }
+    ensures { λ y. ⌜ y ≡ withBit x r v ⌝ }
+{
+    let now = digit(x, r);
+    if v {
+        if now == 0 {
+            return x + (1 << r);
+        }
+        return x;
+    }
+    if now == 0 {
+        return x;
+    }
+    x - (1 << r)
+}
+
+fn least(a: usize, b: usize) -> usize
+    ensures { λ r. ⌜ r ≡ min a b ⌝ }
+{
+    if a < b { a } else { b }
+}

@@ -1,0 +1,172 @@
+-- Words that are alike, of one size and with the same letters, give the same answers.
+--
+-- Alike v w        == v and w have one size, and the same letter at each position below it
+-- alike-call       == the same answer to every call at every number
+-- alike-first, alike-places, alike-lowest == the same first places, sizes and lowest positions
+-- alike-joining    == the same joining borders
+-- Assumes nothing.
+use mathlib.Core.Path.{_≡_, refl, sym, ap, ap₂, _∙_, subst}
+use mathlib.Core.Logic.{_⊎_, inl, inr}
+use mathlib.Core.Bool.{Bool, true, false, _&&_}
+use Prim.Native.Nat.{ℕ, zero, suc, pred, _<_, _≤_}
+use native.Mathlib.Omega.{arith}
+use lib.Dec.{eqb, ltb, leb}
+use borrow.Author.Tests.{ltb-true, leb-true}
+use Rattle.count.specs.Below.{pick}
+use Rattle.count.proofs.Search.{find-not}
+use Rattle.count.proofs.Counts.{count-none}
+use Rattle.count.proofs.Logic.{lt-or-ge, true-or-false, both-left, both-right, pick-yes, pick-no}
+use Rattle.words.specs.Brackets.{Balanced, mate, step, back, number, isFirst, isLast, first, size}
+use Rattle.words.specs.Word.{Family, round, square, Letter, Word, seen, crossing, view}
+use Rattle.words.proofs.Mate.{mate-below}
+use Rattle.words.proofs.Step.{step-below}
+use Rattle.words.proofs.Same.{mate-same, step-same, back-same, number-same, isFirst-same, isLast-same, first-same, size-same}
+use Rattle.drawing.specs.Drawing.{Cell}
+use Rattle.drawing.specs.Session.{Answer, answer, refused, Call}
+use Rattle.format.specs.Calls.{familyOfCell, moveIn, atPlace, firstIn, placesIn, joinIn}
+
+pub record Alike (v w : Word) : Type 0 where
+  pub sizes : v .size ≡ w .size
+  pub letters : (p : ℕ) → p < w .size → v .letter p ≡ w .letter p
+
+-- a word of n letters
+abbrev pub word : ℕ → (ℕ → Letter) → Word
+word n f = record { size = n; letter = f }
+
+module _ (n : ℕ) (f g : ℕ → Letter) (same : (p : ℕ) → p < n → f p ≡ g p) where
+  pub seen-same : (K : Family) (p : ℕ) → p < n → seen K (word n f) p ≡ seen K (word n g) p
+  unfolding seen
+  seen-same K p l = ap (view K) (same p l)
+
+  pub crossing-same : (p : ℕ) → p < n → crossing (word n f) p ≡ crossing (word n g) p
+  unfolding crossing
+  crossing-same p l =
+      mate-same (seen (f p .family) (word n f)) (seen (f p .family) (word n g)) n (seen-same (f p .family)) p l
+      ∙ ap (λ x. mate (seen (x .family) (word n g)) n p) (same p l)
+
+  move-same : (c : Call) (p : ℕ) → p < n → moveIn (word n f) c p ≡ moveIn (word n g) c p
+  unfolding moveIn
+  move-same Call.cross p l = ap suc (crossing-same p l)
+  move-same Call.turn p l =
+      rw (
+        isLast-same (seen round (word n f)) (seen round (word n g)) n (seen-same round) p l,
+        step-same (seen round (word n f)) (seen round (word n g)) n (seen-same round) p l,
+      )
+  move-same Call.turn-back p l =
+      rw (
+        isFirst-same (seen round (word n f)) (seen round (word n g)) n (seen-same round) p (omega arith),
+        back-same (seen round (word n f)) (seen round (word n g)) n (seen-same round) p l,
+      )
+  move-same Call.along p l = ap suc (step-same (seen square (word n f)) (seen square (word n g)) n (seen-same square) p l)
+  move-same Call.point p l = number-same (seen round (word n f)) (seen round (word n g)) n (seen-same round) p (omega arith)
+  move-same Call.area p l = number-same (seen square (word n f)) (seen square (word n g)) n (seen-same square) p (omega arith)
+
+  call-same : (c : Call) (i : ℕ) → atPlace (word n f) c i ≡ atPlace (word n g) c i
+  unfolding atPlace
+  call-same c i =
+      let t : Bool = ltb 0 i && leb i n in
+      elim (true-or-false t) [
+        | inl e ↦
+            let low : 0 < i = ltb-true 0 i (both-left (ltb 0 i) (leb i n) e) in
+            let high : i ≤ n = leb-true i n (both-right (ltb 0 i) (leb i n) e) in
+            ap (λ x. pick t (answer x) (refused 13)) (move-same c (pred i) (omega arith))
+        | inr e ↦
+            pick-no t (answer (moveIn (word n f) c (pred i))) (refused 13) e
+            ∙ sym (pick-no t (answer (moveIn (word n g) c (pred i))) (refused 13) e)
+      ]
+
+  first-alike : (c : Cell) (k : ℕ) → firstIn (word n f) c k ≡ firstIn (word n g) c k
+  unfolding firstIn
+  first-alike c k =
+      ap (λ x. pick (eqb n 0) 0 (suc x))
+      (first-same (seen (familyOfCell c) (word n f)) (seen (familyOfCell c) (word n g)) n (seen-same (familyOfCell c)) k)
+
+  places-alike : (c : Cell) (k : ℕ) → placesIn (word n f) c k ≡ placesIn (word n g) c k
+  unfolding placesIn
+  places-alike c k = size-same (seen (familyOfCell c) (word n f)) (seen (familyOfCell c) (word n g)) n (seen-same (familyOfCell c)) k
+
+-- one place more of the search, as a choice by its test
+join-step : (w : Word) (v k p : ℕ) → joinIn w v (suc k) p
+    ≡ pick (eqb (number (seen round w) (crossing w p)) v) (suc p) (joinIn w v k (step (seen round w) (w .size) p))
+unfolding joinIn
+join-step w v k p = chosen (eqb (number (seen round w) (crossing w p)) v)
+  where
+    chosen : (t : Bool) → _≡_ {A = ℕ} (elim t [ true ↦ suc p | false ↦ joinIn w v k (step (seen round w) (w .size) p) ])
+        (pick t (suc p) (joinIn w v k (step (seen round w) (w .size) p)))
+    chosen true = refl
+    chosen false = refl
+
+crossing-below : (w : Word) → ((K : Family) → Balanced (seen K w) (w .size)) → (p : ℕ) → p < w .size → crossing w p < w .size
+unfolding crossing
+crossing-below w nested p l = mate-below (seen (w .letter p .family) w) (w .size) (nested (w .letter p .family)) p l
+
+module _ (n : ℕ) (f g : ℕ → Letter) (same : (p : ℕ) → p < n → f p ≡ g p) (nested : (K : Family) → Balanced (seen K (word n g)) n) where
+  join-same : (v k p : ℕ) → p < n → joinIn (word n f) v k p ≡ joinIn (word n g) v k p
+  join-same v zero p l = unfold joinIn in refl
+  join-same v (suc k) p l =
+      let q : ℕ = crossing (word n g) p in
+      let below : q < n = crossing-below (word n g) nested p l in
+      let at : ℕ = step (seen round (word n g)) n p in
+      let next : joinIn (word n f) v k at ≡ joinIn (word n g) v k at =
+      join-same v k at (step-below (seen round (word n g)) n (nested round) p l) in
+      let here : number (seen round (word n f)) (crossing (word n f) p) ≡ number (seen round (word n g)) q =
+      ap (number (seen round (word n f))) (crossing-same n f g same p l)
+      ∙ number-same (seen round (word n f)) (seen round (word n g)) n (seen-same n f g same round) q (omega arith) in
+      let moves : step (seen round (word n f)) n p ≡ at =
+      step-same (seen round (word n f)) (seen round (word n g)) n (seen-same n f g same round) p l in
+      join-step (word n f) v k p
+      ∙ ap (λ x. pick (eqb x v) (suc p) (joinIn (word n f) v k (step (seen round (word n f)) n p))) here
+      ∙ ap (λ x. pick (eqb (number (seen round (word n g)) q) v) (suc p) (joinIn (word n f) v k x)) moves
+      ∙ ap (λ x. pick (eqb (number (seen round (word n g)) q) v) (suc p) x) next
+      ∙ sym (join-step (word n g) v k p)
+
+-- any two words that are alike are words of one size
+module _ (P : Word → Word → Type 0) where
+  alike : (v w : Word) → Alike v w → ((n : ℕ) (f g : ℕ → Letter) → ((p : ℕ) → p < n → f p ≡ g p) → P (word n f) (word n g)) → P v w
+  alike v w a all =
+      subst (λ m. P (word m (v .letter)) w) (sym (a .sizes)) (all (w .size) (v .letter) (w .letter) (a .letters))
+
+pub alike-call : (v w : Word) → Alike v w → (c : Call) (i : ℕ) → atPlace v c i ≡ atPlace w c i
+alike-call v w a c i = alike (λ x y. atPlace x c i ≡ atPlace y c i) v w a (λ n f g s. call-same n f g s c i)
+
+pub alike-first : (v w : Word) → Alike v w → (c : Cell) (k : ℕ) → firstIn v c k ≡ firstIn w c k
+alike-first v w a c k = alike (λ x y. firstIn x c k ≡ firstIn y c k) v w a (λ n f g s. first-alike n f g s c k)
+
+pub alike-places : (v w : Word) → Alike v w → (c : Cell) (k : ℕ) → placesIn v c k ≡ placesIn w c k
+alike-places v w a c k = alike (λ x y. placesIn x c k ≡ placesIn y c k) v w a (λ n f g s. places-alike n f g s c k)
+
+alike-join : (v w : Word) → Alike v w → ((K : Family) → Balanced (seen K w) (w .size))
+    → (to k p : ℕ) → p < w .size → joinIn v to k p ≡ joinIn w to k p
+alike-join v w a nested to k p l =
+    subst (λ m. joinIn (word m (v .letter)) to k p ≡ joinIn w to k p) (sym (a .sizes))
+    (join-same (w .size) (v .letter) (w .letter) (a .letters) nested to k p l)
+
+pub alike-lowest : (v w : Word) → Alike v w → (K : Family) (k : ℕ) → first (seen K v) (v .size) k ≡ first (seen K w) (w .size) k
+alike-lowest v w a K k =
+    alike (λ x y. first (seen K x) (x .size) k ≡ first (seen K y) (y .size) k) v w a
+    (λ n f g s. first-same (seen K (word n f)) (seen K (word n g)) n (seen-same n f g s K) k)
+
+-- a number that no position has is had by none
+places-none : (w : Word) (k : ℕ) → w .size ≤ first (seen round w) (w .size) k → placesIn w Cell.point k ≡ 0
+unfolding placesIn size first
+places-none w k g =
+    count-none (λ p. eqb (number (seen round w) p) k) (w .size)
+    (λ p l. find-not (λ q. eqb (number (seen round w) q) k) (w .size) p (omega arith))
+
+join-none : (v w : Word) (to p : ℕ) → joinIn v to 0 p ≡ joinIn w to 0 p
+unfolding joinIn
+join-none v w to p = refl
+
+-- the whole search for a joining border
+pub alike-joining : (v w : Word) → Alike v w → ((K : Family) → Balanced (seen K w) (w .size)) → (to u : ℕ)
+    → joinIn v to (placesIn v Cell.point u) (first (seen round v) (v .size) u)
+    ≡ joinIn w to (placesIn w Cell.point u) (first (seen round w) (w .size) u)
+alike-joining v w a nested to u =
+    let p : ℕ = first (seen round w) (w .size) u in
+    ap₂ (λ (k q : ℕ). joinIn v to k q) (alike-places v w a Cell.point u) (alike-lowest v w a round u)
+    ∙ elim (lt-or-ge p (w .size)) [
+      | inl l ↦ alike-join v w a nested to (placesIn w Cell.point u) p l
+      | inr g ↦
+          let z : placesIn w Cell.point u ≡ 0 = places-none w u g in
+          ap (λ (k : ℕ). joinIn v to k p) z ∙ join-none v w to p ∙ ap (λ (k : ℕ). joinIn w to k p) (sym z)
+    ]

@@ -1,0 +1,93 @@
+-- Calls on the bytes that packing wrote, as calls on the drawing's word.
+--
+-- opens-opened     == a call on bytes that open gives its own answer
+-- packed-call      == every call at every number on the packed bytes is the book's
+-- packed-first, packed-places, packed-joining == so are first places, sizes and joining borders
+-- Assumes nothing.
+use mathlib.Core.Path.{_≡_, refl, sym, ap, ap₂, _∙_}
+use mathlib.Core.Logic.{_⊎_, inl, inr}
+use mathlib.Core.Bool.{Bool, true, false, _&&_}
+use mathlib.Core.List.{List}
+use Prim.Native.Nat.{ℕ, suc, _+_, _≤_, _<_}
+use native.Mathlib.Omega.{arith}
+use lib.Dec.{eqb, ltb, leb}
+use borrow.Author.Tests.{ltb-true, leb-true}
+use Rattle.count.specs.Below.{pick}
+use Rattle.count.proofs.Logic.{true-or-false, both-left, both-right, pick-yes, pick-no}
+use Rattle.words.specs.Brackets.{Balanced, first}
+use Rattle.words.specs.Word.{Family, round, Word, seen}
+use Rattle.words.proofs.Numbers.{openings, number-reached, first-inner}
+use Rattle.words.proofs.Same.{first-same}
+use Rattle.drawing.specs.Drawing.{Drawing, Cell, borders, ends, cells}
+use Rattle.drawing.specs.Checks.{PassesSeven}
+use Rattle.drawing.specs.Session.{Answer, answer, refused, Call}
+use Rattle.drawing.specs.Book.{bookAnswer, bookFirst, bookSize, bookJoining, noSuch}
+use Rattle.format.specs.Bytes.{Size, sizeIn, wordIn}
+use Rattle.format.specs.Open.{openRefusal, afterRefusal, opened}
+use Rattle.format.specs.Calls.{mapAnswer, atPlace, cellsIn, isNumber, familyOfCell, firstIn, firstOf, placesIn, sizeOf, joinIn, joiningOf}
+use Rattle.format.specs.Pack.{wordOf, packedBytes}
+use Rattle.agreement.specs.Toured.{Toured}
+use Rattle.agreement.proofs.Counts.{cells-in, cells-agree}
+use Rattle.agreement.proofs.Nesting.{word-balanced}
+use Rattle.agreement.proofs.Steps.{cellWord}
+use Rattle.agreement.proofs.Book.{isNumbered, book-call, book-first, book-size, book-joining}
+use Rattle.demands.proofs.Alike.{Alike, alike-call, alike-first, alike-places, alike-joining}
+use Rattle.demands.proofs.Passed.{sizeFor, passes-toured, packed-opens, packed-size, packed-alike}
+
+pub opens-opened : {A : Type 0} (s : List ℕ) (a : Answer A) → openRefusal s ≡ 0 → opened s a ≡ a
+unfolding opened
+opens-opened s a e = ap (λ k. afterRefusal k a) e
+
+nested-word : (D : Drawing) → PassesSeven D → (K : Family) → Balanced (seen K (wordOf D)) (wordOf D .size)
+unfolding wordOf
+nested-word D seven K = word-balanced (passes-toured D seven) K
+
+joining-word : (D : Drawing) → PassesSeven D → (u v : ℕ)
+    → bookJoining D u v
+    ≡ pick (isNumbered D Cell.point u && isNumbered D Cell.point v)
+    (answer (joinIn (wordOf D) v (placesIn (wordOf D) Cell.point u) (first (seen round (wordOf D)) (wordOf D .size) u)))
+    (refused 14)
+unfolding wordOf
+joining-word D seven u v = book-joining (passes-toured D seven) u v
+
+module _ (D : Drawing) (seven : PassesSeven D) where
+  toured : Toured D
+  toured = passes-toured D seven
+
+  pub packed-call : (c : Call) (i : ℕ) → mapAnswer (packedBytes D) c i ≡ bookAnswer D c i
+  unfolding mapAnswer
+  packed-call c i =
+      opens-opened (packedBytes D) (atPlace (wordIn (packedBytes D)) c i) (packed-opens D seven)
+      ∙ alike-call (wordIn (packedBytes D)) (wordOf D) (packed-alike D seven) c i
+      ∙ sym (book-call toured c i)
+
+  -- the map's test of a number is the word's
+  number-test : (c : Cell) (k : ℕ) → isNumber (sizeIn (packedBytes D)) c k ≡ isNumbered D c k
+  number-test c k =
+      ap (λ (z : Size). isNumber z c k) (packed-size D seven)
+      ∙ ap (λ (v : ℕ). ltb 0 k && leb k v) (sym (cells-in toured c) ∙ cells-agree toured c)
+
+  pub packed-first : (c : Cell) (k : ℕ) → firstOf (packedBytes D) c k ≡ bookFirst D c k
+  unfolding firstOf
+  packed-first c k =
+      opens-opened (packedBytes D) _ (packed-opens D seven)
+      ∙ ap₂ (λ (t : Bool) (x : ℕ). pick t (answer x) (refused (noSuch c))) (number-test c k)
+      (alike-first (wordIn (packedBytes D)) (wordOf D) (packed-alike D seven) c k)
+      ∙ sym (book-first toured c k)
+
+  pub packed-size-of : (c : Cell) (k : ℕ) → sizeOf (packedBytes D) c k ≡ bookSize D c k
+  unfolding sizeOf
+  packed-size-of c k =
+      opens-opened (packedBytes D) _ (packed-opens D seven)
+      ∙ ap₂ (λ (t : Bool) (x : ℕ). pick t (answer x) (refused (noSuch c))) (number-test c k)
+      (alike-places (wordIn (packedBytes D)) (wordOf D) (packed-alike D seven) c k)
+      ∙ sym (book-size toured c k)
+
+  pub packed-joining : (u v : ℕ) → joiningOf (packedBytes D) u v ≡ bookJoining D u v
+  unfolding joiningOf
+  packed-joining u v =
+      opens-opened (packedBytes D) _ (packed-opens D seven)
+      ∙ ap₂ (λ (t : Bool) (x : ℕ). pick t (answer x) (refused 14))
+      (ap₂ (λ (s t : Bool). s && t) (number-test Cell.point u) (number-test Cell.point v))
+      (alike-joining (wordIn (packedBytes D)) (wordOf D) (packed-alike D seven) (nested-word D seven) v u)
+      ∙ sym (joining-word D seven u v)

@@ -1,0 +1,191 @@
+-- Points and areas on the packed bytes: one number for one cell, where turns end, and how many there are.
+--
+-- same-number  == two places get one number exactly if the drawing's walk leads from one to the other
+-- turn-zero-in == where a turn and a turn back answer 0, on bytes that open
+-- cell-counts  == points and areas are m + 2 in all, and the sizes of each add up to 2m
+-- Assumes nothing.
+use mathlib.Core.Path.{_≡_, refl, sym, ap, ap₂, _∙_}
+use mathlib.Core.Logic.{_≢_, _⊎_, inl, inr, _↔_, Iff·trans}
+use mathlib.Core.Bool.{Bool, true, false, _&&_, _||_}
+use mathlib.Core.List.{List}
+use Prim.Native.Nat.{ℕ, zero, suc, pred, _+_, _*_, _≤_, _<_}
+use native.Mathlib.Omega.{arith}
+use lib.Dec.{eqb, ltb, leb}
+use borrow.Author.Tests.{eqb-true, eq-eqb, lt-ltb, le-leb}
+use Rattle.count.specs.Below.{pick, total}
+use Rattle.count.proofs.Logic.{true-or-false, true-not-false, both, one-of, either-left, either-right, pick-yes, pick-no}
+use Rattle.orbits.specs.Cycles.{SameCycle}
+use Rattle.words.specs.Brackets.{Bracket, closes, opens, neither, isCloses, Balanced, mate, step, back, number, inner, isFirst, isLast, first, size}
+use Rattle.words.specs.Word.{Family, round, sameFamily, Word, seen, crossing}
+use Rattle.words.proofs.Letters.{by-bracket, closes-not-neither}
+use Rattle.words.proofs.Mate.{mate-below, mate-opens, mate-neither}
+use Rattle.words.proofs.Numbers.{openings, first-inner}
+use Rattle.words.proofs.Sizes.{size-sum}
+use Rattle.drawing.specs.Drawing.{Drawing, Cell, borders, ends, around, cells, endAt}
+use Rattle.drawing.specs.Checks.{PassesSeven}
+use Rattle.drawing.specs.Session.{Answer, answer, refused, Call}
+use Rattle.drawing.specs.Book.{sizeOf, bookAnswer}
+use Rattle.format.specs.Bytes.{sizeIn, bitsA, wordIn}
+use Rattle.format.specs.Open.{openRefusal}
+use Rattle.format.specs.Calls.{atPlace, moveIn, mapAnswer, turnOf, turnBackOf, placesIn}
+use Rattle.format.specs.Pack.{wordOf, packedBytes}
+use Rattle.agreement.specs.Toured.{Toured}
+use Rattle.agreement.proofs.Cells.{same-cell, size-agrees}
+use Rattle.agreement.proofs.Counts.{cells-agree, openings-round, openings-square, points-count}
+use Rattle.agreement.proofs.Steps.{cellWord}
+use Rattle.agreement.proofs.Book.{book-call}
+use Rattle.unpacking.proofs.Crossing.{mate-own, by-family}
+use Rattle.demands.specs.Statements.{CellCounts, LastPlace, FirstPlace, TurnZero}
+use Rattle.demands.proofs.Passed.{passes-toured}
+use Rattle.demands.proofs.Answers.{opens-opened, packed-call}
+
+answer-is : (a b : ℕ) → answer a ≡ answer b → a ≡ b
+answer-is a b e = cc
+
+-- the answer at a place of the word
+at-place : (w : Word) (c : Call) (p : ℕ) → p < w .size → atPlace w c (suc p) ≡ answer (moveIn w c p)
+unfolding atPlace
+at-place w c p l =
+    pick-yes (ltb 0 (suc p) && leb (suc p) (w .size)) (answer (moveIn w c p)) (refused 13)
+    (both (ltb 0 (suc p)) (leb (suc p) (w .size)) (lt-ltb 0 (suc p) (omega arith)) (le-leb (suc p) (w .size) l))
+
+-- the call that asks for the number of a point, of an area
+abbrev pub askOf : Cell → Call
+askOf Cell.point = Call.point
+askOf Cell.area = Call.area
+
+number-move : (D : Drawing) (c : Cell) (p : ℕ) → moveIn (wordOf D) (askOf c) p ≡ number (cellWord D c) p
+unfolding moveIn
+number-move D Cell.point p = refl
+number-move D Cell.area p = refl
+
+module _ (D : Drawing) (seven : PassesSeven D) (c : Cell) where
+  number-answer : (p : ℕ) → p < ends D → mapAnswer (packedBytes D) (askOf c) (suc p) ≡ answer (number (cellWord D c) p)
+  unfolding wordOf
+  number-answer p l =
+      packed-call D seven (askOf c) (suc p)
+      ∙ book-call (passes-toured D seven) (askOf c) (suc p)
+      ∙ at-place (wordOf D) (askOf c) p l
+      ∙ ap answer (number-move D c p)
+
+  pub same-number : (p q : ℕ) → p < ends D → q < ends D
+      → (mapAnswer (packedBytes D) (askOf c) (suc p) ≡ mapAnswer (packedBytes D) (askOf c) (suc q))
+      ↔ SameCycle (around D c) (endAt D p) (endAt D q)
+  same-number p q lp lq =
+      let cell = same-cell (passes-toured D seven) c p q lp lq in (
+        λ e. cell .0 (answer-is (number (cellWord D c) p) (number (cellWord D c) q) (sym (number-answer p lp) ∙ e ∙ number-answer q lq)),
+        λ s. number-answer p lp ∙ ap answer (cell .1 s) ∙ sym (number-answer q lq),
+      )
+
+places-are : (D : Drawing) (c : Cell) (k : ℕ) → placesIn (wordOf D) c k ≡ size (cellWord D c) (ends D) k
+unfolding placesIn wordOf
+places-are D c k = refl
+
+-- 0 exactly where the test holds, if the other answer is never 0
+zero-test : (t : Bool) (x : ℕ) → (pick t 0 (suc x) ≡ 0) ↔ (t ≡ true)
+zero-test true x = (λ e. refl, λ e. refl)
+zero-test false x = (λ e. absurd (omega arith), λ e. absurd (true-not-false false e refl))
+
+closes-is : (b : Bracket) → (isCloses b ≡ true) ↔ (b ≡ closes)
+closes-is opens = (λ e. absurd (true-not-false false e refl), λ e. let z : false ≡ true = ap isCloses e in z)
+closes-is closes = (λ e. refl, λ e. refl)
+closes-is neither = (λ e. absurd (true-not-false false e refl), λ e. let z : false ≡ true = ap isCloses e in z)
+
+-- a letter that closes a round bracket is round
+closes-round : (w : Word) (p : ℕ) → seen round w p ≡ closes → w .letter p .family ≡ round
+unfolding seen
+closes-round w p e =
+    elim (by-family round (w .letter p .family)) [
+      | inl h ↦ h .0
+      | inr h ↦ absurd (closes-not-neither e (pick-no (sameFamily round (w .letter p .family)) _ neither (h .1)))
+    ]
+
+module _ (w : Word) (nested : (K : Family) → Balanced (seen K w) (w .size)) (p : ℕ) (l : p < w .size) where
+  abbrev end : ℕ
+  end = pred (w .size)
+
+  end-below : end < w .size
+  end-below = let e : pred (w .size) < w .size = omega arith in e
+
+  -- the mate of the last position: the ( that it closes, or the position itself
+  last-closes : seen round w end ≡ closes → mate (seen round w) (w .size) end ≡ crossing w end
+  last-closes c = mate-own w round end (closes-round w end c)
+
+  last-else : seen round w end ≢ closes → mate (seen round w) (w .size) end ≡ end
+  last-else n =
+      let below : mate (seen round w) (w .size) end < w .size = mate-below (seen round w) (w .size) (nested round) end end-below in
+      by-bracket (seen round w end)
+      (λ o. let after : pred (w .size) < mate (seen round w) (w .size) end = mate-opens (seen round w) (w .size) (nested round) end end-below o .0 in absurd (omega arith))
+      (λ c. absurd (n c))
+      (λ x. mate-neither (seen round w) (w .size) end x)
+
+  last-is : (isLast (seen round w) (w .size) p ≡ true) ↔ LastPlace w p
+  unfolding isLast
+  last-is =
+      let b : Bracket = seen round w p in
+      let m : ℕ = mate (seen round w) (w .size) end in (
+        λ e.
+            elim (one-of (isCloses b) (eqb m p) e) [
+              | inl c ↦ inl (closes-is b .0 c)
+              | inr q ↦
+                  let is : m ≡ p = eqb-true m p q in
+                  elim (true-or-false (isCloses (seen round w end))) [
+                    | inl t ↦ let c : seen round w end ≡ closes = closes-is (seen round w end) .0 t in inr (inr (c, sym is ∙ last-closes c))
+                    | inr f ↦
+                        let n : seen round w end ≢ closes = λ c. true-not-false (isCloses (seen round w end)) (closes-is (seen round w end) .1 c) f in
+                        inr (inl (n, sym is ∙ last-else n))
+                  ]
+            ],
+        λ last.
+            elim last [
+              | inl c ↦ either-left (isCloses b) (eqb m p) (closes-is b .1 c)
+              | inr x ↦
+                  elim x [
+                    | inl h ↦ either-right (isCloses b) (eqb m p) (eq-eqb m p (last-else (h .0) ∙ sym (h .1)))
+                    | inr h ↦ either-right (isCloses b) (eqb m p) (eq-eqb m p (last-closes (h .0) ∙ sym (h .1)))
+                  ]
+            ],
+      )
+
+  first-is-lowest : (isFirst (seen round w) p ≡ true) ↔ FirstPlace w p
+  unfolding isFirst
+  first-is-lowest =
+      let e : first (seen round w) (w .size) (number (seen round w) p) ≡ inner (seen round w) p = first-inner (seen round w) (w .size) p l in
+      (λ t. e ∙ eqb-true (inner (seen round w) p) p t, λ f. eq-eqb (inner (seen round w) p) p (sym e ∙ f))
+
+-- the answer of a call, on bytes that open
+module _ (s : List ℕ) (passes : openRefusal s ≡ 0) (nested : (K : Family) → Balanced (seen K (wordIn s)) (wordIn s .size)) where
+  answer-at : (c : Call) (p : ℕ) → p < wordIn s .size → mapAnswer s c (suc p) ≡ answer (moveIn (wordIn s) c p)
+  unfolding mapAnswer
+  answer-at c p l = opens-opened s (atPlace (wordIn s) c (suc p)) passes ∙ at-place (wordIn s) c p l
+
+  -- an answer is 0 exactly if the move is
+  answer-zero : (c : Call) (p : ℕ) → p < wordIn s .size → (mapAnswer s c (suc p) ≡ answer 0) ↔ (moveIn (wordIn s) c p ≡ 0)
+  answer-zero c p l =
+      (λ e. answer-is (moveIn (wordIn s) c p) 0 (sym (answer-at c p l) ∙ e), λ z. answer-at c p l ∙ ap answer z)
+
+  pub turn-zero-in : (p : ℕ) → p < wordIn s .size → TurnZero s p
+  unfolding turnOf turnBackOf moveIn
+  turn-zero-in p l =
+      let w : Word = wordIn s in
+      record {
+        turn = Iff·trans (answer-zero Call.turn p l)
+            (Iff·trans (zero-test (isLast (seen round w) (w .size) p) (step (seen round w) (w .size) p)) (last-is w nested p l));
+        turn-back = Iff·trans (answer-zero Call.turn-back p l)
+            (Iff·trans (zero-test (isFirst (seen round w) p) (back (seen round w) (w .size) p)) (first-is-lowest w nested p l));
+      }
+
+total-same : (f g : ℕ → ℕ) (v : ℕ) → ((k : ℕ) → f k ≡ g k) → total f v ≡ total g v
+unfolding total
+total-same f g zero same = refl
+total-same f g (suc v) same = ap₂ (λ (x y : ℕ). x + y) (total-same f g v same) (same (suc v))
+
+pub cell-counts : {D : Drawing} → Toured D → CellCounts D
+cell-counts {D} T =
+    record {
+      areas = omega (arith, cells-agree T Cell.area, openings-square T, points-count T);
+      sum = λ c.
+          total-same (sizeOf D c) (size (cellWord D c) (ends D)) (cells D c) (λ k. size-agrees T c k ∙ places-are D c k)
+          ∙ ap (total (size (cellWord D c) (ends D))) (cells-agree T c)
+          ∙ size-sum (cellWord D c) (ends D);
+    }

@@ -1,0 +1,2 @@
+-- The demands of document 01: what each theorem says.
+pub mod Statements

@@ -1,0 +1,28 @@
+-- Two maps by computation: in B and B* a 0 opens and a 1 closes, and a loop joins its point with itself. Assumes nothing.
+use mathlib.Core.Path.{_≡_, refl}
+use mathlib.Core.Bool.{true, false}
+use mathlib.Core.List.{List, [], _∷_}
+use Prim.Native.Nat.{ℕ}
+use Rattle.words.specs.Word.{round, square, Letter}
+use Rattle.drawing.specs.Session.{answer}
+use Rattle.format.specs.Bytes.{wordIn}
+use Rattle.format.specs.Calls.{joiningOf}
+
+-- document 01's cases (b) and (c)
+abbrev stubMap : List ℕ
+stubMap = 0x01 ∷ 0x00 ∷ 0x02 ∷ 0x00 ∷ 0x03 ∷ 0x02 ∷ []
+
+abbrev enclaveMap : List ℕ
+enclaveMap = 0x01 ∷ 0x00 ∷ 0x01 ∷ 0x00 ∷ 0x00 ∷ 0x02 ∷ []
+
+pub record Cases : Type 0 where
+  pub stub-opens : wordIn stubMap .letter 0 ≡ record { family = round; closing = false }
+  pub stub-closes : wordIn stubMap .letter 1 ≡ record { family = round; closing = true }
+  pub enclave-opens : wordIn enclaveMap .letter 0 ≡ record { family = square; closing = false }
+  -- the enclave's one border is a loop
+  pub enclave-joins : joiningOf enclaveMap 1 1 ≡ answer 1
+  pub enclave-closes : wordIn enclaveMap .letter 1 ≡ record { family = square; closing = true }
+
+pub cases : Cases
+unfolding wordIn joiningOf
+cases = record { stub-opens = refl; stub-closes = refl; enclave-opens = refl; enclave-joins = refl; enclave-closes = refl }

@@ -1,0 +1,8 @@
+-- A spanning tree's tour: the laws.
+pub mod Steps
+pub mod Cells
+pub mod Exchange
+pub mod Merging
+pub mod Tour
+pub mod Alternate
+pub mod Theorems

@@ -1,0 +1,81 @@
+-- What is shown of a spanning tree's tour, in one place.
+--
+-- marks-at-least    == marked borders that join all points number at least n - 1
+-- tree-tour         == if they number no more, the tour meets all ends, each once
+-- tree-nests        == and no two marked borders alternate in it
+-- crossing-not-flat == if two unmarked borders alternate in it, the drawing has few areas: areas + points ≤ borders
+-- alternate-few     == the law behind the last two, over any set of borders
+-- Assumes nothing.
+use mathlib.Core.Path.{_≡_, sym, ap}
+use mathlib.Core.Bool.{Bool, true, not}
+use Prim.Native.Nat.{ℕ, _+_, _≤_, _<_}
+use native.Mathlib.Omega.{arith}
+use Rattle.count.specs.Below.{count}
+use Rattle.count.proofs.Below.{count-not}
+use Rattle.orbits.specs.Cycles.{Permutes, cycles}
+use Rattle.orbits.proofs.Classes.{cycles-same}
+use Rattle.drawing.specs.Drawing.{Drawing, Cell, borders, ends, turn, isMarked, over, walk, around, cells, endAt}
+use Rattle.drawing.specs.Checks.{PassesSix, Alternate, Crossing, markCount}
+use Rattle.drawing.proofs.Ends.{turn-permutes, over-over}
+use Rattle.tours.proofs.Exchange.{over-permutes, over-rest}
+use Rattle.tours.proofs.Cells.{cells-are, points-are}
+use Rattle.tours.proofs.Tour.{tour-permutes, start-below, tree-one-cycle}
+pub use Rattle.tours.proofs.Merging.{marks-at-least}
+pub use Rattle.tours.proofs.Tour.{tree-tour}
+pub use Rattle.tours.proofs.Alternate.{Alternates, alternate-few}
+
+-- what alternates in a drawing's tour alternates on the walk of its step
+alternates : (D : Drawing) (a b : ℕ) → Alternate D a b → Alternates (borders D) (walk D (isMarked D)) (D .start) a b
+unfolding ends endAt
+alternates D a b A =
+    record {
+      p = A .p;
+      q = A .q;
+      r = A .r;
+      t = A .s;
+      p-q = A .p-q;
+      q-r = A .q-r;
+      r-t = A .r-s;
+      t-end = A .s-end;
+      at-p = A .at-p;
+      at-q = A .at-q;
+      at-r = A .at-r;
+      at-t = A .at-s;
+    }
+
+alternate-few-in : (D : Drawing) → PassesSix D → 0 < borders D → (S : ℕ → Bool) (a b : ℕ) → S a ≡ true → S b ≡ true → Alternate D a b
+    → cycles (ends D) (λ h. walk D (isMarked D) (over S h)) + 1 ≤ count S (borders D)
+unfolding ends
+alternate-few-in D six pos S a b sa sb A =
+    alternate-few (borders D) (walk D (isMarked D)) (tour-permutes D six) (tree-one-cycle D six pos) (D .start) (start-below D six pos)
+    (alternates D a b A) S sa sb
+
+pub tree-nests : (D : Drawing) → PassesSix D → (a b : ℕ) → isMarked D a ≡ true → isMarked D b ≡ true → Alternate D a b → ⊥
+unfolding ends markCount walk
+tree-nests D six a b ma mb A =
+    let pos : 0 < borders D = omega (arith, A .s-end) in
+    let few = alternate-few-in D six pos (isMarked D) a b ma mb A in
+    let p : Permutes (ends D) (turn D) = turn-permutes D (six .range) (six .entries) in
+    let same : cycles (ends D) (turn D) ≡ cycles (ends D) (λ h. walk D (isMarked D) (over (isMarked D) h))
+    = cycles-same p (λ h b. ap (turn D) (sym (over-over (isMarked D) h))) in
+    omega (arith, few, same, points-are D pos, six .few .fewer)
+
+pub crossing-not-flat : (D : Drawing) → PassesSix D → (a b : ℕ) → Crossing D a b → cells D Cell.area + cells D Cell.point ≤ borders D
+unfolding ends markCount around walk
+crossing-not-flat D six a b C =
+    let pos : 0 < borders D = omega (arith, C .first-border) in
+    let U : ℕ → Bool = λ e. not (isMarked D e) in
+    let ua : U a ≡ true = rw (C .first-unmarked) in
+    let ub : U b ≡ true = rw (C .second-unmarked) in
+    let few = alternate-few-in D six pos U a b ua ub (C .alternate) in
+    let same : cycles (ends D) (λ h. walk D (isMarked D) (over U h)) ≡ cycles (ends D) (around D Cell.area)
+    = cycles-same (over-permutes (borders D) (walk D (isMarked D)) U (tour-permutes D six)) (λ h b. ap (turn D) (over-rest (isMarked D) h)) in
+    omega (
+      arith,
+      few,
+      same,
+      cells-are D Cell.area pos,
+      marks-at-least D (six .range) (six .entries) (six .joins),
+      six .few .fewer,
+      count-not (isMarked D) (borders D),
+    )
