@@ -18,11 +18,11 @@ use Rattle.count.proofs.Counts.{count-none}
 use Rattle.count.proofs.Logic.{lt-or-ge, true-or-false, both-left, both-right, pick-yes, pick-no}
 use Rattle.words.specs.Brackets.{Balanced, mate, step, back, number, isFirst, isLast, first, size}
 use Rattle.words.specs.Word.{Family, round, square, Letter, Word, seen, crossing, view}
-use Rattle.words.proofs.Mate.{mate-below}
 use Rattle.words.proofs.Step.{step-below}
 use Rattle.words.proofs.Same.{mate-same, step-same, back-same, number-same, isFirst-same, isLast-same, first-same, size-same}
 use Rattle.drawing.specs.Drawing.{Cell}
 use Rattle.drawing.specs.Session.{Answer, answer, refused, Call}
+use Rattle.unpacking.proofs.Crossing.{crossing-below}
 use Rattle.format.specs.Calls.{familyOfCell, moveIn, atPlace, firstIn, placesIn, joinIn}
 
 pub record Alike (v w : Word) : Type 0 where
@@ -95,10 +95,6 @@ join-step w v k p = chosen (eqb (number (seen round w) (crossing w p)) v)
         (pick t (suc p) (joinIn w v k (step (seen round w) (w .size) p)))
     chosen true = refl
     chosen false = refl
-
-crossing-below : (w : Word) → ((K : Family) → Balanced (seen K w) (w .size)) → (p : ℕ) → p < w .size → crossing w p < w .size
-unfolding crossing
-crossing-below w nested p l = mate-below (seen (w .letter p .family) w) (w .size) (nested (w .letter p .family)) p l
 
 module _ (n : ℕ) (f g : ℕ → Letter) (same : (p : ℕ) → p < n → f p ≡ g p) (nested : (K : Family) → Balanced (seen K (word n g)) n) where
   join-same : (v k p : ℕ) → p < n → joinIn (word n f) v k p ≡ joinIn (word n g) v k p

@@ -5,6 +5,8 @@
 -- label-start         == at first it is the point of h
 -- label-marked, label-unmarked == what one border does to a label
 -- label-keeps         == labels that are one stay one
+-- label-at, label-off, label-same == what a marked border does to a label, by whether it is that of the first end
+-- label-crosses       == after a marked border its two ends have one label
 -- label-turn          == an end and its entry always have one label
 -- label-linked, linked-label == ends with one label are linked; linked ends have one label at the last
 -- joined-decides      == `joined` decides that the marked borders join all points
@@ -30,7 +32,7 @@ use Rattle.orbits.proofs.Same.{same-cycle-induct}
 use Rattle.orbits.proofs.Low.{low-same-cycle, low-step}
 use Rattle.drawing.specs.Drawing.{Drawing, Cell, borders, ends, border, other, turn, isMarked, around, walk, over, cellOf}
 use Rattle.drawing.specs.Checks.{Linked, here, turned, crossing, Joined, labels, relabel, mergeAt, allSame, joined}
-use Rattle.drawing.proofs.Ends.{other-even, other-odd, other-below, border-below}
+use Rattle.drawing.proofs.Ends.{other-even, other-odd, other-border, other-below, border-below}
 
 unfoldable pub label : Drawing → ℕ → ℕ → ℕ
 label D e h = getD (labels D e) h 0
@@ -88,16 +90,41 @@ module _ (D : Drawing) where
       let z : e + suc k ≡ e + k + 1 = omega arith in
       rw z (label-keeps-step (e + k) g h bg bh (label-keeps e k g h bg bh s))
 
-  -- after a marked border its two ends have one label
-  label-joins : (e : ℕ) → e < borders D → isMarked D e ≡ true → label D (e + 1) (2 * e) ≡ label D (e + 1) (2 * e + 1)
+  -- a marked border gives the label of its second end to all that have the label of its first
+  module _ (e : ℕ) (marked : isMarked D e ≡ true) where
+    pub label-at : (h : ℕ) → h < ends D → label D e h ≡ label D e (2 * e) → label D (e + 1) h ≡ label D e (2 * e + 1)
+    label-at h b q =
+        label-marked D e h marked b
+        ∙ pick-yes (eqb (label D e h) (label D e (2 * e))) (label D e (2 * e + 1)) (label D e h) (eq-eqb (label D e h) (label D e (2 * e)) q)
+
+    pub label-off : (h : ℕ) → h < ends D → label D e h ≢ label D e (2 * e) → label D (e + 1) h ≡ label D e h
+    label-off h b d =
+        label-marked D e h marked b
+        ∙ pick-no (eqb (label D e h) (label D e (2 * e))) (label D e (2 * e + 1)) (label D e h) (ne-eqb (label D e h) (label D e (2 * e)) d)
+
+    pub label-same : label D e (2 * e) ≡ label D e (2 * e + 1) → (h : ℕ) → h < ends D → label D (e + 1) h ≡ label D e h
+    label-same s h b =
+        elim (same-or-not (label D e h) (label D e (2 * e))) [ inl q ↦ label-at h b q ∙ sym s ∙ sym q | inr d ↦ label-off h b d ]
+
+    -- both its ends have the second one's
+    label-joined : (h : ℕ) → h < ends D → border h ≡ e → label D (e + 1) h ≡ label D e (2 * e + 1)
+    unfolding border
+    label-joined h b at =
+        elim (same-or-not (label D e h) (label D e (2 * e))) [
+          | inl q ↦ label-at h b q
+          | inr d ↦
+              let n : h ≢ 2 * e = λ q. d (ap (label D e) q) in
+              let o : h ≡ 2 * e + 1 = omega arith in
+              label-off h b d ∙ ap (label D e) o
+        ]
+
+  pub label-crosses : (e h : ℕ) → h < ends D → border h < e → isMarked D (border h) ≡ true → label D e (other h) ≡ label D e h
   unfolding ends
-  label-joins e l t =
-      let a : ℕ = label D e (2 * e) in
-      let b : ℕ = label D e (2 * e + 1) in
-      label-marked D e (2 * e) t (omega arith)
-      ∙ pick-yes (eqb a a) b a (eq-eqb a a refl)
-      ∙ sym (elim (same-or-not b a) [ inl s ↦ pick-yes (eqb b a) b b (eq-eqb b a s) | inr n ↦ pick-no (eqb b a) b b (ne-eqb b a n) ])
-      ∙ sym (label-marked D e (2 * e + 1) t (omega arith))
+  label-crosses e h b l t =
+      let bo : other h < ends D = other-below (borders D) h b in
+      let z : border h + 1 + (e - (border h + 1)) ≡ e = omega arith in
+      rw z at (label-keeps (border h + 1) (e - (border h + 1)) (other h) h bo b
+      (label-joined (border h) t (other h) bo (other-border h) ∙ sym (label-joined (border h) t h b refl)))
 
   module _ (p : Permutes (ends D) (turn D)) where
     pub label-turn : (e h : ℕ) → h < ends D → label D e (turn D h) ≡ label D e h
@@ -113,27 +140,11 @@ module _ (D : Drawing) where
     linked-below g h b (turned x l) = p .below x (linked-below g x b l)
     linked-below g h b (crossing x t l) = other-below (borders D) x (linked-below g x b l)
 
-    -- across a marked border, at the last
-    label-crosses : (h : ℕ) → h < ends D → isMarked D (border h) ≡ true → label D (borders D) (other h) ≡ label D (borders D) h
-    unfolding ends border
-    label-crosses h b t =
-        let e : ℕ = border h in
-        let l : e < borders D = border-below (borders D) h b in
-        let k : ℕ = borders D - (e + 1) in
-        let z : e + 1 + k ≡ borders D = omega arith in
-        let s : label D (borders D) (2 * e) ≡ label D (borders D) (2 * e + 1) =
-        rw z at (label-keeps (e + 1) k (2 * e) (2 * e + 1) (omega arith) (omega arith) (label-joins e l t)) in
-        elim (same-or-not h (2 * e)) [
-          | inl q ↦ rw (q, other-even e) (sym s)
-          | inr n ↦
-              let q : h ≡ 2 * e + 1 = omega arith in
-              rw (q, other-odd e) s
-        ]
-
     pub linked-label : (g h : ℕ) → g < ends D → Linked D g h → label D (borders D) g ≡ label D (borders D) h
+    unfolding ends
     linked-label g h b here = refl
     linked-label g h b (turned x l) = linked-label g x b l ∙ sym (label-turn (borders D) x (linked-below g x b l))
-    linked-label g h b (crossing x t l) = linked-label g x b l ∙ sym (label-crosses x (linked-below g x b l) t)
+    linked-label g h b (crossing x t l) = linked-label g x b l ∙ sym (label-crosses (borders D) x (linked-below g x b l) (border-below (borders D) x (linked-below g x b l)) t)
 
     linked-trans : (f g h : ℕ) → Linked D f g → Linked D g h → Linked D f h
     linked-trans f g h l here = l

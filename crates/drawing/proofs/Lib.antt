@@ -4,3 +4,4 @@ pub mod Ends
 pub mod Checks
 pub mod Crossing
 pub mod Labels
+pub mod Cells

@@ -7,3 +7,4 @@ pub mod Exchanged
 pub mod Exchange
 pub mod Chain
 pub mod Conjugate
+pub mod Steps

@@ -25,7 +25,7 @@ use Rattle.orbits.proofs.Exchange.{Exchanged, exchange-joins, exchange-parts}
 use Rattle.drawing.specs.Drawing.{border, other, over}
 use Rattle.drawing.proofs.Ends.{other-other, other-below, border-below, over-yes, over-no}
 use Rattle.tours.proofs.Exchange.{ends-of-border, over-permutes, exchange-at, over-moves}
-use Rattle.tours.proofs.Steps.{steps-once}
+use Rattle.orbits.proofs.Steps.{steps-once}
 
 pub record Alternates (m : ℕ) (f : ℕ → ℕ) (s a b : ℕ) : Type 0 where
   pub p : ℕ

@@ -1,6 +1,4 @@
 -- A spanning tree's tour: the laws.
-pub mod Steps
-pub mod Cells
 pub mod Exchange
 pub mod Merging
 pub mod Tour

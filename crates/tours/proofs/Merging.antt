@@ -29,8 +29,8 @@ use Rattle.orbits.proofs.Low.{low-below, leads-is, leads-low}
 use Rattle.drawing.specs.Drawing.{Drawing, Cell, borders, ends, border, other, turn, isMarked, cells}
 use Rattle.drawing.specs.Checks.{InRange, Distinct, Joined, markCount}
 use Rattle.drawing.proofs.Ends.{turn-permutes, other-border, other-below}
-use Rattle.drawing.proofs.Labels.{label, label-start, label-marked, label-unmarked, label-keeps, linked-label}
-use Rattle.tours.proofs.Cells.{cells-none, points-are}
+use Rattle.drawing.proofs.Labels.{label, label-start, label-unmarked, label-at, label-off, label-same, linked-label}
+use Rattle.drawing.proofs.Cells.{cells-none, points-are}
 
 abbrev pub present : Drawing → ℕ → ℕ → Bool
 present D e l = any (λ h. eqb (label D e h) l) (ends D)
@@ -57,33 +57,6 @@ module _ (D : Drawing) where
       (λ t. let r = present-has e l t in present-from i l (r .0) (r .1) (sym (same (r .0) (r .1)) ∙ r .2))
       (λ t. let r = present-has i l t in present-from e l (r .0) (r .1) (same (r .0) (r .1) ∙ r .2))
 
-  module _ (e : ℕ) (marked : isMarked D e ≡ true) where
-    pub label-at : (h : ℕ) → h < ends D → label D e h ≡ label D e (2 * e) → label D (e + 1) h ≡ label D e (2 * e + 1)
-    label-at h b q =
-        label-marked D e h marked b
-        ∙ pick-yes (eqb (label D e h) (label D e (2 * e))) (label D e (2 * e + 1)) (label D e h) (eq-eqb (label D e h) (label D e (2 * e)) q)
-
-    pub label-off : (h : ℕ) → h < ends D → label D e h ≢ label D e (2 * e) → label D (e + 1) h ≡ label D e h
-    label-off h b d =
-        label-marked D e h marked b
-        ∙ pick-no (eqb (label D e h) (label D e (2 * e))) (label D e (2 * e + 1)) (label D e h) (ne-eqb (label D e h) (label D e (2 * e)) d)
-
-    pub label-same : label D e (2 * e) ≡ label D e (2 * e + 1) → (h : ℕ) → h < ends D → label D (e + 1) h ≡ label D e h
-    label-same s h b =
-        elim (same-or-not (label D e h) (label D e (2 * e))) [ inl q ↦ label-at h b q ∙ sym s ∙ sym q | inr d ↦ label-off h b d ]
-
-    -- both its ends have the second one's
-    label-joined : (h : ℕ) → h < ends D → border h ≡ e → label D (e + 1) h ≡ label D e (2 * e + 1)
-    unfolding border
-    label-joined h b at =
-        elim (same-or-not (label D e h) (label D e (2 * e))) [
-          | inl q ↦ label-at h b q
-          | inr d ↦
-              let n : h ≢ 2 * e = λ q. d (ap (label D e) q) in
-              let o : h ≡ 2 * e + 1 = omega arith in
-              label-off h b d ∙ ap (label D e) o
-        ]
-
   pub label-below : (e : ℕ) → e ≤ borders D → (h : ℕ) → h < ends D → label D e h < ends D
   unfolding ends
   label-below zero l h b = rw (label-start D h b) (low-below (ends D) (turn D) h b)
@@ -92,19 +65,11 @@ module _ (D : Drawing) where
       rw (← add-one e) (elim (true-or-false (isMarked D e)) [
         | inl t ↦
             elim (same-or-not (label D e h) (label D e (2 * e))) [
-              | inl q ↦ rw (label-at e t h b q) (before (2 * e + 1) (omega arith))
-              | inr d ↦ rw (label-off e t h b d) (before h b)
+              | inl q ↦ rw (label-at D e t h b q) (before (2 * e + 1) (omega arith))
+              | inr d ↦ rw (label-off D e t h b d) (before h b)
             ]
         | inr f ↦ rw (label-unmarked D e h f) (before h b)
       ])
-
-  pub label-crosses : (e h : ℕ) → h < ends D → border h < e → isMarked D (border h) ≡ true → label D e (other h) ≡ label D e h
-  unfolding ends
-  label-crosses e h b l t =
-      let bo : other h < ends D = other-below (borders D) h b in
-      let z : border h + 1 + (e - (border h + 1)) ≡ e = omega arith in
-      rw z at (label-keeps D (border h + 1) (e - (border h + 1)) (other h) h bo b
-      (label-joined (border h) t (other h) bo (other-border h) ∙ sym (label-joined (border h) t h b refl)))
 
   -- one label less after a border that merged
   merge-less : (e : ℕ) → e < borders D → isMarked D e ≡ true → label D e (2 * e) ≢ label D e (2 * e + 1)
@@ -116,8 +81,8 @@ module _ (D : Drawing) where
       let a : ℕ = label D e (2 * e) in
       let gone : (h : ℕ) → h < ends D → label D (e + 1) h ≢ a = λ h b q.
       (elim (same-or-not (label D e h) a) [
-        | inl s ↦ d (sym q ∙ label-at e t h b s)
-        | inr n ↦ n (sym (label-off e t h b n) ∙ q)
+        | inl s ↦ d (sym q ∙ label-at D e t h b s)
+        | inr n ↦ n (sym (label-off D e t h b n) ∙ q)
       ]) in
       count-one-less (present D e) (present D (e + 1)) (ends D) a (label-below e (omega arith) (2 * e) be)
       (present-from e a (2 * e) be refl)
@@ -128,12 +93,12 @@ module _ (D : Drawing) where
       (λ x b n. bool-same (present D e x) (present D (e + 1) x)
       (λ p.
       let r = present-has e x p in
-      present-from (e + 1) x (r .0) (r .1) (label-off e t (r .0) (r .1) (λ q. n (sym (r .2) ∙ q)) ∙ r .2))
+      present-from (e + 1) x (r .0) (r .1) (label-off D e t (r .0) (r .1) (λ q. n (sym (r .2) ∙ q)) ∙ r .2))
       (λ p.
       let r = present-has (e + 1) x p in
       elim (same-or-not (label D e (r .0)) a) [
-        | inl s ↦ present-from e x (2 * e + 1) bo (sym (label-at e t (r .0) (r .1) s) ∙ r .2)
-        | inr s ↦ present-from e x (r .0) (r .1) (sym (label-off e t (r .0) (r .1) s) ∙ r .2)
+        | inl s ↦ present-from e x (2 * e + 1) bo (sym (label-at D e t (r .0) (r .1) s) ∙ r .2)
+        | inr s ↦ present-from e x (r .0) (r .1) (sym (label-off D e t (r .0) (r .1) s) ∙ r .2)
       ]))
 
   -- as many after any other border
@@ -145,7 +110,7 @@ module _ (D : Drawing) where
           elim (true-or-false (isMarked D e)) [
             | inl t ↦
                 elim (same-or-not (label D e (2 * e)) (label D e (2 * e + 1))) [
-                  | inl s ↦ label-same e t s h b
+                  | inl s ↦ label-same D e t s h b
                   | inr d ↦
                       let p : parted D e ≡ true = rw (ne-eqb (label D e (2 * e)) (label D e (2 * e + 1)) d) in
                       absurd (true-not-false (merges D e) (both (isMarked D e) (parted D e) t p) f)

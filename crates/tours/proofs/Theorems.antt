@@ -18,7 +18,7 @@ use Rattle.drawing.specs.Drawing.{Drawing, Cell, borders, ends, turn, isMarked,
 use Rattle.drawing.specs.Checks.{PassesSix, Alternate, Crossing, markCount}
 use Rattle.drawing.proofs.Ends.{turn-permutes, over-over}
 use Rattle.tours.proofs.Exchange.{over-permutes, over-rest}
-use Rattle.tours.proofs.Cells.{cells-are, points-are}
+use Rattle.drawing.proofs.Cells.{cells-are, points-are}
 use Rattle.tours.proofs.Tour.{tour-permutes, start-below, tree-one-cycle}
 pub use Rattle.tours.proofs.Merging.{marks-at-least}
 pub use Rattle.tours.proofs.Tour.{tree-tour}

@@ -24,10 +24,11 @@ use Rattle.drawing.specs.Checks.{PassesSix, markCount}
 use Rattle.drawing.proofs.Ends.{turn-permutes, walk-permutes, over-yes, over-no, over-below}
 use Rattle.drawing.proofs.Labels.{label, label-turn}
 use Rattle.tours.specs.Tour.{MeetsAll}
-use Rattle.tours.proofs.Steps.{steps-below, steps-reach, steps-of, steps-close}
-use Rattle.tours.proofs.Cells.{points-are}
+use Rattle.orbits.proofs.Steps.{steps-below, steps-reach, steps-of, steps-close}
+use Rattle.drawing.proofs.Cells.{points-are}
 use Rattle.tours.proofs.Exchange.{upTo, added, up-to-below, up-to-from, over-permutes, over-joins}
-use Rattle.tours.proofs.Merging.{label-crosses, marks-at-least, marks-merge}
+use Rattle.drawing.proofs.Labels.{label-crosses}
+use Rattle.tours.proofs.Merging.{marks-at-least, marks-merge}
 
 abbrev pub marksBelow : Drawing → ℕ → ℕ → Bool
 marksBelow D e = upTo (λ i. false) (isMarked D) e
