@@ -18,8 +18,8 @@ use lib.ListN.{length, getD, drop}
 use lib.Seq.{getD-drop, drop-drop}
 use Rattle.drawing.specs.Drawing.{Drawing, borders, ends, turn}
 use Rattle.drawing.specs.Session.{answer, refused}
-use Rattle.text.specs.Input.{names, borderLine, borderLines, drawingText, Denotes, afterPrefix, withRest, Line, readLine, Rows, addRow, readLines, drawingOr17, readText}
-use Rattle.text.proofs.Lines.{lineThen, IsLine, read-line, line-read, some-rest, some-line, read-prefix, prefix-read}
+use Rattle.text.specs.Input.{names, borderLine, borderLines, drawingText, Denotes, afterPrefix, with, Line, readLine, Rows, addRow, readLines, drawingOr17, readText}
+use Rattle.text.proofs.Lines.{lineThen, IsLine, read-line, line-read, some-with, read-prefix, prefix-read}
 
 unfoldable pub rowLines : ℕ → List ℕ → List ℕ → List ℕ
 rowLines e T [] = []
@@ -134,7 +134,7 @@ rows-read zero e [] t q = rows-end zero e t q
 rows-read (suc n) e [] t q = rows-end (suc n) e t q
 rows-read zero e (c ∷ s) t q = absurd (Option·none-ne-some t q)
 rows-read (suc n) e (c ∷ s) t q =
-    some-line (readLine e (c ∷ s)) _ t q
+    some-with (readLine e (c ∷ s)) _ t q
     (λ l line more.
     some-row l (readLines n (suc e) (l .rest)) t more
     (λ r rest made.
@@ -148,7 +148,7 @@ rows-read (suc n) e (c ∷ s) t q =
 drawing-same : (D E : Drawing) → D .turning ≡ E .turning → D .marks ≡ E .marks → D .start ≡ E .start → D ≡ E
 drawing-same D E t m s = λ i. record { turning = t i; marks = m i; start = s i }
 
-text-is : (s : List ℕ) → readText s ≡ drawingOr17 (withRest (afterPrefix names s) (λ r. readLines 2048 0 r))
+text-is : (s : List ℕ) → readText s ≡ drawingOr17 (with (afterPrefix names s) (λ r. readLines 2048 0 r))
 unfolding readText
 text-is s = refl
 
@@ -168,9 +168,9 @@ reads-text s D d =
 pub text-denotes : (s : List ℕ) (D : Drawing) → readText s ≡ answer D → Denotes s D
 unfolding borders ends turn
 text-denotes s D q =
-    some-drawing (withRest (afterPrefix names s) (λ r. readLines 2048 0 r)) D (sym (text-is s) ∙ q)
+    some-drawing (with (afterPrefix names s) (λ r. readLines 2048 0 r)) D (sym (text-is s) ∙ q)
     (λ t read made.
-    some-rest (afterPrefix names s) _ t read
+    some-with (afterPrefix names s) _ t read
     (λ r named rows.
     let R = rows-read 2048 0 r t rows in
     let E : Drawing = record { turning = t .turning; marks = t .marks; start = 0 } in
@@ -196,6 +196,6 @@ only-17 (some t) k q = let z : _≡_ {A = ℕ} 0 1 = cc in absurd (omega arith)
 
 pub refuses-17 : (s : List ℕ) (k : ℕ) → readText s ≡ refused k → (k ≡ 17) × ((D : Drawing) → Denotes s D → ⊥)
 refuses-17 s k q = (
-  only-17 (withRest (afterPrefix names s) (λ r. readLines 2048 0 r)) k (sym (text-is s) ∙ q),
+  only-17 (with (afterPrefix names s) (λ r. readLines 2048 0 r)) k (sym (text-is s) ∙ q),
   λ D d. let p = reads-text s D d in let z : _≡_ {A = ℕ} 0 1 = cc in omega arith,
 )

@@ -1,6 +1,6 @@
 -- A line of a drawing's text: what is written is read, and what is read is what was written.
 --
--- some-rest, some-read, some-line, some-pick == where a reading went on to the end, each step of it gave something
+-- some-with, some-pick     == where a reading went on to the end, each step of it gave something
 -- read-prefix, prefix-read == the bytes of a list are taken off exactly if the text begins with them
 -- IsField most end s r     == s is a number of at most `most`, the byte `end`, and the rest
 -- read-field, field-read   == a field is read exactly if it is one
@@ -20,21 +20,13 @@ use borrow.Author.Tests.{eqb-true, leb-true, eq-eqb, le-leb, ne-eqb}
 use Rattle.count.specs.Below.{pick}
 use Rattle.count.proofs.Logic.{same-or-not}
 use Rattle.text.specs.Decimal.{decimal, isDigit, Read, readNumber}
-use Rattle.text.specs.Input.{space, lineFeed, afterPrefix, withRest, withRead, withLine, readField, Line, readLine}
+use Rattle.text.specs.Input.{space, lineFeed, afterPrefix, with, readField, Line, readLine}
 use Rattle.text.proofs.Decimal.{read-decimal, number-decimal}
 
 module _ {X C : Type 0} where
-  pub some-rest : (o : Option (List ℕ)) (f : List ℕ → Option X) (x : X) → withRest o f ≡ some x → ((t : List ℕ) → o ≡ some t → f t ≡ some x → C) → C
-  some-rest none f x e k = absurd (Option·none-ne-some x e)
-  some-rest (some t) f x e k = k t refl e
-
-  pub some-read : (o : Option Read) (f : ℕ → List ℕ → Option X) (x : X) → withRead o f ≡ some x → ((r : Read) → o ≡ some r → f (r .value) (r .rest) ≡ some x → C) → C
-  some-read none f x e k = absurd (Option·none-ne-some x e)
-  some-read (some r) f x e k = k r refl e
-
-  pub some-line : (o : Option Line) (f : Line → Option X) (x : X) → withLine o f ≡ some x → ((l : Line) → o ≡ some l → f l ≡ some x → C) → C
-  some-line none f x e k = absurd (Option·none-ne-some x e)
-  some-line (some l) f x e k = k l refl e
+  pub some-with : {Y : Type 0} (o : Option Y) (f : Y → Option X) (x : X) → with o f ≡ some x → ((y : Y) → o ≡ some y → f y ≡ some x → C) → C
+  some-with none f x e k = absurd (Option·none-ne-some x e)
+  some-with (some y) f x e k = k y refl e
 
   pub some-pick : (t : Bool) (o : Option X) (x : X) → pick t o none ≡ some x → (t ≡ true → o ≡ some x → C) → C
   some-pick true o x e k = k refl e
@@ -66,11 +58,11 @@ read-field most end s r d F = rw (F .text, read-decimal (r .value) (end ∷ r .r
 pub field-read : (most end : ℕ) (s : List ℕ) (r : Read) → readField most end s ≡ some r → IsField most end s r
 unfolding readField
 field-read most end s r e =
-    some-read (readNumber s) _ r e
+    some-with (readNumber s) _ r e
     (λ n number picked.
     some-pick (leb (n .value) most) _ r picked
     (λ small rested.
-    some-rest (afterPrefix (end ∷ []) (n .rest)) _ r rested
+    some-with (afterPrefix (end ∷ []) (n .rest)) _ r rested
     (λ t ended made.
     rw (← Option·some-injective (record { value = n .value; rest = t }) r made)
     (record {
@@ -105,15 +97,15 @@ read-line e s l L =
 pub line-read : (e : ℕ) (s : List ℕ) (l : Line) → readLine e s ≡ some l → IsLine e s l
 unfolding readLine
 line-read e s l q =
-    some-read (readField 65535 space s) _ l q
+    some-with (readField 65535 space s) _ l q
     (λ n number picked.
     some-pick (eqb (n .value) e) _ l picked
     (λ same more.
-    some-read (readField 65535 space (n .rest)) _ l more
+    some-with (readField 65535 space (n .rest)) _ l more
     (λ a first more.
-    some-read (readField 65535 space (a .rest)) _ l more
+    some-with (readField 65535 space (a .rest)) _ l more
     (λ b second more.
-    some-read (readField 255 lineFeed (b .rest)) _ l more
+    some-with (readField 255 lineFeed (b .rest)) _ l more
     (λ v mark made.
     let N = field-read 65535 space s n number in
     let A = field-read 65535 space (n .rest) a first in

@@ -60,19 +60,17 @@ afterPrefix [] s = some s
 afterPrefix (x ∷ xs) [] = none
 afterPrefix (x ∷ xs) (c ∷ s) = elim (eqb x c) [ true ↦ afterPrefix xs s | false ↦ none ]
 
-abbrev pub withRest : {X : Type 0} → Option (List ℕ) → (List ℕ → Option X) → Option X
-withRest none f = none
-withRest (some s) f = f s
-
-abbrev pub withRead : {X : Type 0} → Option Read → (ℕ → List ℕ → Option X) → Option X
-withRead none f = none
-withRead (some r) f = f (r .value) (r .rest)
+-- what f makes of a reading, if there is one
+abbrev pub with : {X Y : Type 0} → Option X → (X → Option Y) → Option Y
+with none f = none
+with (some x) f = f x
 
 -- a number of at most `most`, and the byte `end` after it
 unfoldable pub readField : ℕ → ℕ → List ℕ → Option Read
 unfolding readNumber afterPrefix
 readField most end s =
-    withRead (readNumber s) (λ x r. pick (leb x most) (withRest (afterPrefix (end ∷ []) r) (λ t. some (record { value = x; rest = t }))) none)
+    with (readNumber s)
+    (λ x. pick (leb (x .value) most) (with (afterPrefix (end ∷ []) (x .rest)) (λ t. some (record { value = x .value; rest = t }))) none)
 
 pub record Line : Type 0 where
   pub first : ℕ
@@ -84,20 +82,17 @@ pub record Line : Type 0 where
 unfoldable pub readLine : ℕ → List ℕ → Option Line
 unfolding readField
 readLine e s =
-    withRead (readField 65535 space s)
-    (λ x r. pick (eqb x e)
-    (withRead (readField 65535 space r)
-    (λ a t. withRead (readField 65535 space t)
-    (λ b u. withRead (readField 255 lineFeed u) (λ v rest. some (record { first = a; second = b; mark = v; rest = rest })))))
+    with (readField 65535 space s)
+    (λ n. pick (eqb (n .value) e)
+    (with (readField 65535 space (n .rest))
+    (λ a. with (readField 65535 space (a .rest))
+    (λ b. with (readField 255 lineFeed (b .rest))
+    (λ v. some (record { first = a .value; second = b .value; mark = v .value; rest = v .rest })))))
     none)
 
 pub record Rows : Type 0 where
   pub turning : List ℕ
   pub marks : List ℕ
-
-abbrev pub withLine : {X : Type 0} → Option Line → (Line → Option X) → Option X
-withLine none f = none
-withLine (some l) f = f l
 
 abbrev pub addRow : Line → Option Rows → Option Rows
 addRow l none = none
@@ -109,7 +104,7 @@ unfolding readLine
 readLines zero e [] = some (record { turning = []; marks = [] })
 readLines zero e (c ∷ s) = none
 readLines (suc k) e [] = some (record { turning = []; marks = [] })
-readLines (suc k) e (c ∷ s) = withLine (readLine e (c ∷ s)) (λ l. addRow l (readLines k (suc e) (l .rest)))
+readLines (suc k) e (c ∷ s) = with (readLine e (c ∷ s)) (λ l. addRow l (readLines k (suc e) (l .rest)))
 
 abbrev pub drawingOr17 : Option Rows → Answer Drawing
 drawingOr17 none = refused 17
@@ -117,4 +112,4 @@ drawingOr17 (some t) = answer (record { turning = t .turning; marks = t .marks; 
 
 unfoldable pub readText : List ℕ → Answer Drawing
 unfolding afterPrefix names readLines
-readText s = drawingOr17 (withRest (afterPrefix names s) (λ r. readLines 2048 0 r))
+readText s = drawingOr17 (with (afterPrefix names s) (λ r. readLines 2048 0 r))
