@@ -1,0 +1,3 @@
+-- Opening a packed map: the laws.
+pub mod Checks
+pub mod Offsets

@@ -1,0 +1,23 @@
+-- `card::opening::ones_fit` meets its contract. Assumes nothing.
+use Rattle.card.proofs.Checks.{ones-all}
+use Rattle.card.proofs.opening.ones_fit.Statement.{statement}
+use Rattle.card.proofs.opening.ones_fit.Tie as tie
+
+part-a-requires : tie.Need-part-a-requires
+part-a-requires c κs = search ones-all
+
+bits-a-requires : tie.Need-bits-a-requires
+bits-a-requires c κs = search ones-all
+
+rank-requires : tie.Need-rank-requires
+rank-requires c κs = search ones-all
+
+bits-b-requires : tie.Need-bits-b-requires
+bits-b-requires c κs = search ones-all
+
+returns : tie.Need-returns
+returns c = search ones-all
+
+pub ones-fit-spec : {M : Type 1} → statement M
+ones-fit-spec =
+    tie.close (tie.spec part-a-requires bits-a-requires rank-requires bits-b-requires returns)

@@ -1,0 +1,30 @@
+-- `card::opening::size_fits` meets its contract. Assumes nothing.
+use Rattle.card.proofs.Checks.{size-all}
+use Rattle.card.proofs.opening.size_fits.Statement.{statement}
+use Rattle.card.proofs.opening.size_fits.Tie as tie
+
+borders-requires : tie.Need-borders-requires
+borders-requires c κs = search size-all
+
+points-requires : tie.Need-points-requires
+points-requires c κs = search size-all
+
+returns : tie.Need-returns
+returns c = search size-all
+
+returns-2 : tie.Need-returns-2
+returns-2 c = search size-all
+
+returns-3 : tie.Need-returns-3
+returns-3 c = search size-all
+
+add-result : tie.Need-add-result
+add-result c = search size-all
+
+returns-4 : tie.Need-returns-4
+returns-4 c = search size-all
+
+pub size-fits-spec : {M : Type 1} → statement M
+size-fits-spec =
+    tie.close
+    (tie.spec borders-requires points-requires returns returns-2 returns-3 add-result returns-4)

@@ -1,0 +1,2 @@
+-- Opening a packed map: what an answer means.
+pub mod Answers

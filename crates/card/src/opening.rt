@@ -1,0 +1,126 @@
+// Opening: checks 8 to 12, each in one pass over its strings.
+use crate::answers::Opened;
+use crate::header::HEADER;
+use crate::header::borders;
+use crate::header::points;
+use crate::layout::ROUND;
+use crate::layout::SQUARE;
+use crate::layout::bits_a;
+use crate::layout::bits_b;
+use crate::layout::map_length;
+use crate::layout::part_a;
+use crate::layout::part_b;
+ghost use mathlib.Core.Path.{_≡_};
+ghost use mathlib.Core.Bool.{true};
+ghost use Rattle.words.specs.Brackets.{balanced};
+ghost use Rattle.bits.specs.Strings.{brackets, unusedZero};
+ghost use Rattle.format.specs.Bytes.{sizeIn, bitsA, bitsB, partA, partB, familyOf};
+ghost use Rattle.format.specs.Open.{sizeFits, lengthFits, unusedFits, onesFit, bracketsFit, openRefusal, openOf};
+ghost use Rattle.card.specs.Answers.{openedMeans};
+
+// "Opening gives m and n", or the number of the check that declines.
+pub fn open(map: &[u8]) -> Opened
+    ensures { λ r. ⌜ openedMeans r ≡ openOf (now (map .entry)) ⌝ }
+{
+    let number = refusal(map);
+    if number == 0 {
+        Opened::Size(borders(map), points(map))
+    } else {
+        Opened::Declined(number)
+    }
+}
+
+// "Checks run in table order": the number of the first that declines; 0 where none does.
+pub fn refusal(map: &[u8]) -> u8
+    ensures { λ r. ⌜ r ≡ openRefusal (now (map .entry)) ⌝ }
+{
+    if !size_fits(map) {
+        return 8;
+    }
+    if !length_fits(map) {
+        return 9;
+    }
+    if !unused_fits(map) {
+        return 10;
+    }
+    if !ones_fit(map) {
+        return 11;
+    }
+    if !brackets_fit(map) {
+        return 12;
+    }
+    0
+}
+
+// 8: "under 4 bytes, m over 2,048, or n not 1 to m+1"
+fn size_fits(map: &[u8]) -> bool
+    ensures { λ r. ⌜ r ≡ sizeFits (now (map .entry)) ⌝ }
+{
+    let m = borders(map);
+    let n = points(map);
+    if map.len() < HEADER {
+        return false;
+    }
+    if 2048 < m {
+        return false;
+    }
+    if n < 1 {
+        return false;
+    }
+    n <= m + 1
+}
+
+// 9: "length differs from the header's"
+fn length_fits(map: &[u8]) -> bool
+    ensures { λ r. ⌜ r ≡ lengthFits (now (map .entry)) ⌝ }
+{
+    map.len() == map_length(map)
+}
+
+// 10: "an unused bit is 1"
+fn unused_fits(map: &[u8]) -> bool
+    requires { ⌜ lengthFits (now map) ≡ true ⌝ }
+    ensures { λ r. ⌜ r ≡ unusedFits (now (map .entry)) ⌝ }
+{
+    unused_a(map) && unused_b(map, ROUND) && unused_b(map, SQUARE)
+}
+
+// 11: "A has not 2n-2 ones"
+fn ones_fit(map: &[u8]) -> bool
+    requires { ⌜ lengthFits (now map) ≡ true ⌝ }
+    ensures { λ r. ⌜ r ≡ onesFit (now (map .entry)) ⌝ }
+{
+    bits::rank(part_a(map), 1, bits_a(map)) == bits_b(map, ROUND)
+}
+
+// 12: "B or B* not balanced (0 opens)"
+fn brackets_fit(map: &[u8]) -> bool
+    requires { ⌜ lengthFits (now map) ≡ true ⌝ }
+    ensures { λ r. ⌜ r ≡ bracketsFit (now (map .entry)) ⌝ }
+{
+    balanced_b(map, ROUND) && balanced_b(map, SQUARE)
+}
+
+// Whether the unused bits of A are 0.
+fn unused_a(map: &[u8]) -> bool
+    requires { ⌜ lengthFits (now map) ≡ true ⌝ }
+    ensures { λ r. ⌜ r ≡ unusedZero (partA (now (map .entry))) (bitsA (sizeIn (now (map .entry)))) ⌝ }
+{
+    bits::unused_zero(part_a(map), bits_a(map))
+}
+
+// Whether the unused bits of B or B* are 0.
+fn unused_b(map: &[u8], v: usize) -> bool
+    requires { ⌜ lengthFits (now map) ≡ true ⌝ }
+    ensures { λ r. ⌜ r ≡ unusedZero (partB (familyOf v) (now (map .entry))) (bitsB (familyOf v) (sizeIn (now (map .entry)))) ⌝ }
+{
+    bits::unused_zero(part_b(map, v), bits_b(map, v))
+}
+
+// Whether B or B* is balanced.
+fn balanced_b(map: &[u8], v: usize) -> bool
+    requires { ⌜ lengthFits (now map) ≡ true ⌝ }
+    ensures { λ r. ⌜ r ≡ balanced (brackets (partB (familyOf v) (now (map .entry)))) (bitsB (familyOf v) (sizeIn (now (map .entry)))) ⌝ }
+{
+    bits::is_balanced(part_b(map, v), bits_b(map, v))
+}

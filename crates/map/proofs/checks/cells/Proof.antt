@@ -1,0 +1,27 @@
+-- `map::checks::cells` meets its contract. Assumes nothing.
+use Rattle.map.proofs.Answered.{check-all}
+use borrow.Author.Needs.{needs}
+use Rattle.map.proofs.checks.cells.Statement.{statement}
+use Rattle.map.proofs.checks.cells.Tie as tie
+
+points-requires : tie.Need-points-requires
+points-requires c κs = search needs
+
+borders-requires : tie.Need-borders-requires
+borders-requires c κs = search needs
+
+add-result : tie.Need-add-result
+add-result c = search needs
+
+sub-result : tie.Need-sub-result
+sub-result c = search check-all
+
+returns : tie.Need-returns
+returns c = search check-all
+
+returns-2 : tie.Need-returns-2
+returns-2 c = search check-all
+
+pub cells-spec : {M : Type 1} → statement M
+cells-spec =
+    tie.close (tie.spec points-requires borders-requires add-result sub-result returns returns-2)

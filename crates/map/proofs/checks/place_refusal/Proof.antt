@@ -1,0 +1,27 @@
+-- `map::checks::place_refusal` meets its contract. Assumes nothing.
+use Rattle.map.proofs.Answered.{check-all}
+use borrow.Author.Needs.{needs}
+use Rattle.map.proofs.checks.place_refusal.Statement.{statement}
+use Rattle.map.proofs.checks.place_refusal.Tie as tie
+
+refusal-requires : tie.Need-refusal-requires
+refusal-requires c κs = search needs
+
+returns : tie.Need-returns
+returns c = search check-all
+
+returns-2 : tie.Need-returns-2
+returns-2 c = search check-all
+
+length-requires : tie.Need-length-requires
+length-requires c κs = search needs
+
+returns-3 : tie.Need-returns-3
+returns-3 c = search check-all
+
+returns-4 : tie.Need-returns-4
+returns-4 c = search check-all
+
+pub place-refusal-spec : {M : Type 1} → statement M
+place-refusal-spec =
+    tie.close (tie.spec refusal-requires returns returns-2 length-requires returns-3 returns-4)

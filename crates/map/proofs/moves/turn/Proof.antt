@@ -1,0 +1,27 @@
+-- `map::moves::turn` meets its contract. Assumes nothing.
+use Rattle.format.specs.Calls.{turnOf}
+use Rattle.map.proofs.Answered.{move-all}
+use borrow.Author.Needs.{needs}
+use Rattle.map.proofs.moves.turn.Statement.{statement}
+use Rattle.map.proofs.moves.turn.Tie as tie
+
+place-refusal-requires : tie.Need-place-refusal-requires
+place-refusal-requires c κs = search needs
+
+returns : tie.Need-returns
+unfolding turnOf
+returns c = search move-all
+
+sub-turn-from : tie.Need-sub-turn-from
+sub-turn-from c = search move-all
+
+turn-from-requires : tie.Need-turn-from-requires
+turn-from-requires c κs = search move-all
+
+returns-2 : tie.Need-returns-2
+unfolding turnOf
+returns-2 c = search move-all
+
+pub turn-spec : {M : Type 1} → statement M
+turn-spec =
+    tie.close (tie.spec place-refusal-requires returns sub-turn-from turn-from-requires returns-2)

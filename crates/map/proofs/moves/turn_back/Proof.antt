@@ -1,0 +1,28 @@
+-- `map::moves::turn_back` meets its contract. Assumes nothing.
+use Rattle.format.specs.Calls.{turnBackOf}
+use Rattle.map.proofs.Answered.{move-all}
+use borrow.Author.Needs.{needs}
+use Rattle.map.proofs.moves.turn_back.Statement.{statement}
+use Rattle.map.proofs.moves.turn_back.Tie as tie
+
+place-refusal-requires : tie.Need-place-refusal-requires
+place-refusal-requires c κs = search needs
+
+returns : tie.Need-returns
+unfolding turnBackOf
+returns c = search move-all
+
+sub-turn-back-from : tie.Need-sub-turn-back-from
+sub-turn-back-from c = search move-all
+
+turn-back-from-requires : tie.Need-turn-back-from-requires
+turn-back-from-requires c κs = search move-all
+
+returns-2 : tie.Need-returns-2
+unfolding turnBackOf
+returns-2 c = search move-all
+
+pub turn-back-spec : {M : Type 1} → statement M
+turn-back-spec =
+    tie.close
+    (tie.spec place-refusal-requires returns sub-turn-back-from turn-back-from-requires returns-2)

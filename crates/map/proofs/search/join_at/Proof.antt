@@ -1,0 +1,34 @@
+-- `map::search::join_at` meets its contract. Assumes nothing.
+use Rattle.map.proofs.Joins.{joining-all}
+use borrow.Author.Needs.{needs}
+use Rattle.map.proofs.search.join_at.Statement.{statement}
+use Rattle.map.proofs.search.join_at.Tie as tie
+
+length-requires : tie.Need-length-requires
+length-requires c κs = search needs
+
+returns : tie.Need-returns
+returns c = search joining-all
+
+size-at-requires : tie.Need-size-at-requires
+size-at-requires c κs = search needs
+
+first-at-requires : tie.Need-first-at-requires
+first-at-requires c κs = search needs
+
+join-from-requires : tie.Need-join-from-requires
+join-from-requires c κs = search needs
+
+returns-2 : tie.Need-returns-2
+returns-2 c = search joining-all
+
+pub join-at-spec : {M : Type 1} → statement M
+join-at-spec =
+    tie.close
+    (tie.spec
+    length-requires
+    returns
+    size-at-requires
+    first-at-requires
+    join-from-requires
+    returns-2)

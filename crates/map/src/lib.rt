@@ -1,0 +1,47 @@
+// Moves and numbers on a packed map, from raw bytes.
+//
+//     cross, turn, turn_back, along   the four moves: from a place to a place
+//     point_at, area_at               the point and the area of a place
+//     point_first, area_first         the first place of a point, of an area
+//     degree, sides, neighbours       how many places a point, an area has; an area's neighbour count
+//     joining                         the first place about a point whose crossing lands at another point
+//
+// Conventions. Places, points and areas each count from 1, and each kind of number has a type of its
+// own. A place of 0 says that there is none: past a point's last place, no joining border, an empty
+// map. No function asks anything of its caller: on any bytes and any number it answers, or it
+// declines with the number of the first check that fails.
+//
+// Inside, positions count from 0: position p is place p + 1. A family of brackets goes by its bit in
+// the string A: 1 for the round ones, which enclose points, 0 for the square ones, which enclose
+// areas. What holds of both is written once.
+//
+// The source is document 01, "Moves", for the answers, and its table, rows 8 to 15, for the checks. The
+// definitions that the contracts cite are those of the crate `format`; specs/Answers.antt says what an
+// answer means.
+mod answers;
+mod cells;
+mod checks;
+mod moves;
+mod search;
+mod sizes;
+mod word;
+
+pub use answers::Area;
+pub use answers::AreaAnswer;
+pub use answers::Count;
+pub use answers::Place;
+pub use answers::PlaceAnswer;
+pub use answers::Point;
+pub use answers::PointAnswer;
+pub use cells::area_first;
+pub use cells::degree;
+pub use cells::neighbours;
+pub use cells::point_first;
+pub use cells::sides;
+pub use moves::along;
+pub use moves::area_at;
+pub use moves::cross;
+pub use moves::point_at;
+pub use moves::turn;
+pub use moves::turn_back;
+pub use search::joining;

@@ -1,0 +1,69 @@
+// The joining border of two points.
+use crate::answers::Place;
+use crate::answers::PlaceAnswer;
+use crate::answers::Point;
+use crate::cells::size_at;
+use crate::checks::cell_refusal;
+use crate::checks::is_number;
+use crate::word::ROUND;
+use crate::word::crossing_at;
+use crate::word::first_at;
+use crate::word::length;
+use crate::word::number_at;
+use crate::word::step_at;
+ghost use mathlib.Core.Path.{_≡_};
+ghost use Rattle.words.specs.Brackets.{first};
+ghost use Rattle.words.specs.Word.{round, seen};
+ghost use Rattle.drawing.specs.Drawing.{Cell};
+ghost use Rattle.format.specs.Bytes.{wordIn};
+ghost use Rattle.format.specs.Calls.{joinIn, placesIn, joiningOf};
+ghost use Rattle.map.specs.Answers.{placeMeans};
+ghost use Rattle.map.specs.Checks.{places, Inside, Numbered};
+
+// The first place about u, in turning order, whose crossing lands at v; 0 if none does.
+pub fn joining(map: &[u8], u: Point, v: Point) -> PlaceAnswer
+    ensures { λ r. ⌜ placeMeans r ≡ joiningOf (now (map .entry)) (u .0) (v .0) ⌝ }
+{
+    let from = u.0;
+    let to = v.0;
+    let k = cell_refusal(map, ROUND, from);
+    if k != 0 {
+        return PlaceAnswer::Declined(k);
+    }
+    if is_number(map, ROUND, to) {
+        PlaceAnswer::At(Place(join_at(map, from, to)))
+    } else {
+        PlaceAnswer::Declined(14)
+    }
+}
+
+// Once round the point u, from its first place; an empty map has no place to start from.
+fn join_at(map: &[u8], u: usize, v: usize) -> usize
+    requires { ⌜ Numbered (now map) 1 u ⌝ }
+    ensures { λ r. ⌜ r ≡ joinIn (wordIn (now (map .entry))) v (placesIn (wordIn (now (map .entry))) Cell.point u) (first (seen round (wordIn (now (map .entry)))) (places (now (map .entry))) u) ⌝ }
+{
+    if length(map) == 0 {
+        return 0;
+    }
+    join_from(map, v, size_at(map, ROUND, u), first_at(map, ROUND, u))
+}
+
+// The first of k places from position f on, in turning order, whose crossing lands at v.
+fn join_from(map: &[u8], v: usize, k: usize, f: usize) -> usize
+    requires { ⌜ Inside (now map) f ⌝ }
+    ensures { λ r. ⌜ r ≡ joinIn (wordIn (now (map .entry))) v k f ⌝ }
+{
+    let mut p = f;
+    let mut left = k;
+    let found = loop {
+        if left == 0 {
+            break 0;
+        }
+        if number_at(map, ROUND, crossing_at(map, p)) == v {
+            break p + 1;
+        }
+        p = step_at(map, ROUND, p);
+        left -= 1;
+    };
+    found
+}
