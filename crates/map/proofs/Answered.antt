@@ -22,17 +22,18 @@ use borrow.Author.Tests.{ltb-true, leb-true, lt-ltb, le-leb, ne-eqb}
 use lib.Dec.{eqb, ltb, leb}
 use Rattle.count.specs.Below.{pick}
 use Rattle.count.proofs.Logic.{both, both-left, both-right, not-both, pick-no}
-use Rattle.words.specs.Brackets.{step, number, first}
-use Rattle.words.specs.Word.{round, seen, crossing}
+use Rattle.words.specs.Brackets.{step, number, size}
+use Rattle.words.specs.Word.{seen, crossing}
 use Rattle.drawing.specs.Drawing.{Cell}
 use Rattle.drawing.specs.Book.{noSuch}
 use Rattle.drawing.specs.Session.{Answer, answer, refused, Call}
 use Rattle.format.specs.Bytes.{sizeIn, wordIn}
 use Rattle.format.specs.Open.{unless, openRefusal, afterRefusal, opened}
-use Rattle.format.specs.Calls.{moveIn, atPlace, mapAnswer, cellsIn, isNumber, firstIn, firstOf, placesIn, sizeOf, joinIn, joiningOf}
+use Rattle.format.specs.Calls.{familyOfCell, moveIn, atPlace, mapAnswer, cellsIn, isNumber, firstIn, firstOf, placesIn, sizeOf, joiningOf}
 use Rattle.format.proofs.Passes.{opens-passes}
-use Rattle.map.proofs.Decoded.{places-most}
-use Rattle.map.specs.Checks.{places, seenIn, cellAt, Inside, Position, Numbered, orNext, afterOpening, placeRefusal, cellRefusal}
+use Rattle.walks.specs.Positions.{places, seenIn, cellAt, Inside, Position, Numbered}
+use Rattle.walks.proofs.Decoded.{places-most}
+use Rattle.map.specs.Checks.{orNext, afterOpening, placeRefusal, cellRefusal, joinedIn}
 
 -- ---- any call: o is what opening answers, t the call's own test, n its number, a its answer
 pub refused-is : (o : ℕ) (t : Bool) (n k : ℕ) (a : Answer ℕ) → k ≡ orNext o (unless t n 0) → (k ≡ 0 → ⊥)
@@ -225,8 +226,8 @@ module _ (s : List ℕ) where
       unfolding sizeOf opened
       size-declines m = cell-declines (answer (placesIn (wordIn s) c k)) m
 
-      pub size-answers : (r : ℕ) → o ≡ 0 → r ≡ placesIn (wordIn s) c k → answer r ≡ sizeOf s c k
-      unfolding sizeOf opened
+      pub size-answers : (r : ℕ) → o ≡ 0 → r ≡ size (seen (familyOfCell c) (wordIn s)) (places s) k → answer r ≡ sizeOf s c k
+      unfolding sizeOf opened placesIn wordIn
       size-answers r z h = ap answer h ∙ cell-answers (answer (placesIn (wordIn s) c k)) z
 
   pub cell-passes : (v k o : ℕ) → o ≡ cellRefusal s (cellAt v) k → v < 2 → o ≡ 0 → Numbered s v k
@@ -236,10 +237,6 @@ module _ (s : List ℕ) where
 picked-both : (x y : Bool) (a z : Answer ℕ) → pick (x && y) a z ≡ pick x (pick y a z) z
 picked-both true y a z = refl
 picked-both false y a z = refl
-
--- what joiningOf answers once both points are there
-abbrev pub joinedIn : List ℕ → ℕ → ℕ → ℕ
-joinedIn s u v = joinIn (wordIn s) v (placesIn (wordIn s) Cell.point u) (first (seen round (wordIn s)) (places s) u)
 
 module _ (s : List ℕ) (u v o : ℕ) (e : o ≡ cellRefusal s Cell.point u) where
   join-as : joiningOf s u v

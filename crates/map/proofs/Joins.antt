@@ -13,14 +13,15 @@ use native.Mathlib.Omega.{arith}
 use borrow.Author.Needs.{needs}
 use borrow.Author.Tests.{eq-eqb, ne-eqb}
 use lib.Dec.{eqb}
-use Rattle.words.specs.Brackets.{number, step, first}
+use Rattle.words.specs.Brackets.{number, step, first, size}
 use Rattle.words.specs.Word.{round, seen, Word, crossing}
 use Rattle.drawing.specs.Drawing.{Cell}
 use Rattle.format.specs.Bytes.{wordIn}
 use Rattle.format.specs.Calls.{joinIn, placesIn}
-use Rattle.map.specs.Checks.{places, seenIn, Inside, Position}
-use Rattle.map.proofs.Walks.{stands}
-use Rattle.map.proofs.Counting.{size-none}
+use Rattle.map.specs.Checks.{joinedIn}
+use Rattle.walks.specs.Positions.{places, seenIn, Inside, Position}
+use Rattle.walks.proofs.Walks.{stands}
+use Rattle.walks.proofs.Counting.{size-none}
 
 module _ (w : Word) (v : ℕ) where
   join-zero : (p : ℕ) → joinIn w v 0 p ≡ 0
@@ -72,14 +73,15 @@ module _ (s : List ℕ) (v k f : ℕ) where
         }
 
 module _ (s : List ℕ) (u v n : ℕ) (hn : n ≡ places s) where
-  pub join-empty : n ≡ 0
-      → 0 ≡ joinIn (wordIn s) v (placesIn (wordIn s) Cell.point u) (first (seen round (wordIn s)) (places s) u)
+  pub join-empty : n ≡ 0 → 0 ≡ joinedIn s u v
+  unfolding placesIn wordIn
   join-empty z =
       let x = first (seen round (wordIn s)) (places s) u in
       sym (ap (λ k. joinIn (wordIn s) v k x) (sym (size-none s 1 u n hn z)) ∙ join-zero (wordIn s) v x)
 
-  pub join-full : (k f r : ℕ) → k ≡ placesIn (wordIn s) Cell.point u → Position s (first (seenIn 1 s) (places s) u) f
-      → r ≡ joinIn (wordIn s) v k f → r ≡ joinIn (wordIn s) v (placesIn (wordIn s) Cell.point u) (first (seen round (wordIn s)) (places s) u)
+  pub join-full : (k f r : ℕ) → k ≡ size (seenIn 1 s) (places s) u → Position s (first (seenIn 1 s) (places s) u) f
+      → r ≡ joinIn (wordIn s) v k f → r ≡ joinedIn s u v
+  unfolding placesIn wordIn
   join-full k f r e P h = h ∙ ap (λ x. joinIn (wordIn s) v x f) e ∙ ap (joinIn (wordIn s) v (placesIn (wordIn s) Cell.point u)) (P .is)
 
 pub ruleset joining-all = (joining-start, joining-on, joining-here, joining-none, join-empty, join-full, stands, needs)

@@ -5,17 +5,17 @@ use crate::answers::Place;
 use crate::answers::PlaceAnswer;
 use crate::answers::Point;
 use crate::checks::cell_refusal;
-use crate::sizes::size_from;
-use crate::word::ROUND;
-use crate::word::SQUARE;
-use crate::word::first_at;
-use crate::word::length;
+use walks::ROUND;
+use walks::SQUARE;
+use walks::first_at;
+use walks::places;
+use walks::size_at;
 ghost use mathlib.Core.Path.{_≡_};
 ghost use Rattle.drawing.specs.Drawing.{Cell};
 ghost use Rattle.format.specs.Bytes.{wordIn};
-ghost use Rattle.format.specs.Calls.{firstIn, firstOf, placesIn, sizeOf, neighboursOf};
+ghost use Rattle.format.specs.Calls.{firstIn, firstOf, sizeOf, neighboursOf};
 ghost use Rattle.map.specs.Answers.{placeMeans, countMeans};
-ghost use Rattle.map.specs.Checks.{cellAt, Numbered};
+ghost use Rattle.walks.specs.Positions.{cellAt, Numbered};
 
 // The first place of a point: 1 for point 1, else the place after the ( that reaches it; 0 if m = 0.
 pub fn point_first(map: &[u8], point: Point) -> PlaceAnswer
@@ -76,19 +76,8 @@ fn first_place(map: &[u8], v: usize, k: usize) -> usize
     requires { ⌜ Numbered (now map) v k ⌝ }
     ensures { λ r. ⌜ r ≡ firstIn (wordIn (now (map .entry))) (cellAt v) k ⌝ }
 {
-    if length(map) == 0 {
+    if places(map) == 0 {
         return 0;
     }
     first_at(map, v, k) + 1
-}
-
-// How many places the point (area) k has.
-pub fn size_at(map: &[u8], v: usize, k: usize) -> usize
-    requires { ⌜ Numbered (now map) v k ⌝ }
-    ensures { λ r. ⌜ r ≡ placesIn (wordIn (now (map .entry))) (cellAt v) k ⌝ }
-{
-    if length(map) == 0 {
-        return 0;
-    }
-    size_from(map, v, first_at(map, v, k))
 }

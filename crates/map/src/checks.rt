@@ -1,12 +1,13 @@
 // The checks of a call, in the order of document 01's table: opening's, then that of its own number.
-use crate::word::ROUND;
-use crate::word::length;
+use walks::ROUND;
+use walks::places;
 ghost use mathlib.Core.Path.{_≡_};
 ghost use Rattle.drawing.specs.Book.{noSuch};
 ghost use Rattle.format.specs.Bytes.{sizeIn};
 ghost use Rattle.format.specs.Open.{openRefusal};
 ghost use Rattle.format.specs.Calls.{cellsIn, isNumber};
-ghost use Rattle.map.specs.Checks.{cellAt, placeRefusal, cellRefusal};
+ghost use Rattle.map.specs.Checks.{placeRefusal, cellRefusal};
+ghost use Rattle.walks.specs.Positions.{cellAt};
 
 // 8 to 12, then 13: "place not 1 to 2m"; 0 where none applies.
 pub fn place_refusal(map: &[u8], at: usize) -> u8
@@ -19,7 +20,7 @@ pub fn place_refusal(map: &[u8], at: usize) -> u8
     if at == 0 {
         return 13;
     }
-    if length(map) < at {
+    if places(map) < at {
         return 13;
     }
     0

@@ -11,10 +11,6 @@
 // map. No function asks anything of its caller: on any bytes and any number it answers, or it
 // declines with the number of the first check that fails.
 //
-// Inside, positions count from 0: position p is place p + 1. A family of brackets goes by its bit in
-// the string A: 1 for the round ones, which enclose points, 0 for the square ones, which enclose
-// areas. What holds of both is written once.
-//
 // The source is document 01, "Moves", for the answers, and its table, rows 8 to 15, for the checks. The
 // definitions that the contracts cite are those of the crate `format`; specs/Answers.antt says what an
 // answer means.
@@ -23,8 +19,6 @@ mod cells;
 mod checks;
 mod moves;
 mod search;
-mod sizes;
-mod word;
 
 pub use answers::Area;
 pub use answers::AreaAnswer;

@@ -6,19 +6,19 @@ use crate::answers::PlaceAnswer;
 use crate::answers::Point;
 use crate::answers::PointAnswer;
 use crate::checks::place_refusal;
-use crate::word::ROUND;
-use crate::word::SQUARE;
-use crate::word::crossing_at;
-use crate::word::length;
-use crate::word::mate_at;
-use crate::word::number_at;
-use crate::word::step_at;
+use walks::ROUND;
+use walks::SQUARE;
+use walks::crossing_at;
+use walks::mate_at;
+use walks::number_at;
+use walks::places;
+use walks::step_at;
 ghost use mathlib.Core.Path.{_≡_};
 ghost use Rattle.drawing.specs.Session.{Call};
 ghost use Rattle.format.specs.Bytes.{wordIn};
 ghost use Rattle.format.specs.Calls.{moveIn, crossOf, turnOf, turnBackOf, alongOf, pointOf, areaOf};
 ghost use Rattle.map.specs.Answers.{placeMeans, pointMeans, areaMeans};
-ghost use Rattle.map.specs.Checks.{Inside};
+ghost use Rattle.walks.specs.Positions.{Inside};
 
 // The place of the other end.
 pub fn cross(map: &[u8], place: Place) -> PlaceAnswer
@@ -104,7 +104,7 @@ fn turn_from(map: &[u8], p: usize) -> usize
     if q < p {
         return 0;
     }
-    if q + 1 == length(map) {
+    if q + 1 == places(map) {
         return 0;
     }
     q + 2

@@ -2,23 +2,21 @@
 use crate::answers::Place;
 use crate::answers::PlaceAnswer;
 use crate::answers::Point;
-use crate::cells::size_at;
 use crate::checks::cell_refusal;
 use crate::checks::is_number;
-use crate::word::ROUND;
-use crate::word::crossing_at;
-use crate::word::first_at;
-use crate::word::length;
-use crate::word::number_at;
-use crate::word::step_at;
+use walks::ROUND;
+use walks::crossing_at;
+use walks::first_at;
+use walks::number_at;
+use walks::places;
+use walks::size_at;
+use walks::step_at;
 ghost use mathlib.Core.Path.{_≡_};
-ghost use Rattle.words.specs.Brackets.{first};
-ghost use Rattle.words.specs.Word.{round, seen};
-ghost use Rattle.drawing.specs.Drawing.{Cell};
 ghost use Rattle.format.specs.Bytes.{wordIn};
-ghost use Rattle.format.specs.Calls.{joinIn, placesIn, joiningOf};
+ghost use Rattle.format.specs.Calls.{joinIn, joiningOf};
 ghost use Rattle.map.specs.Answers.{placeMeans};
-ghost use Rattle.map.specs.Checks.{places, Inside, Numbered};
+ghost use Rattle.map.specs.Checks.{joinedIn};
+ghost use Rattle.walks.specs.Positions.{Inside, Numbered};
 
 // The first place about u, in turning order, whose crossing lands at v; 0 if none does.
 pub fn joining(map: &[u8], u: Point, v: Point) -> PlaceAnswer
@@ -40,9 +38,9 @@ pub fn joining(map: &[u8], u: Point, v: Point) -> PlaceAnswer
 // Once round the point u, from its first place; an empty map has no place to start from.
 fn join_at(map: &[u8], u: usize, v: usize) -> usize
     requires { ⌜ Numbered (now map) 1 u ⌝ }
-    ensures { λ r. ⌜ r ≡ joinIn (wordIn (now (map .entry))) v (placesIn (wordIn (now (map .entry))) Cell.point u) (first (seen round (wordIn (now (map .entry)))) (places (now (map .entry))) u) ⌝ }
+    ensures { λ r. ⌜ r ≡ joinedIn (now (map .entry)) u v ⌝ }
 {
-    if length(map) == 0 {
+    if places(map) == 0 {
         return 0;
     }
     join_from(map, v, size_at(map, ROUND, u), first_at(map, ROUND, u))

@@ -1,14 +1,14 @@
 -- `map::cells::first_place` meets its contract. Assumes nothing.
-use Rattle.map.proofs.Counting.{size-all}
+use Rattle.map.proofs.Firsts.{first-all}
 use borrow.Author.Needs.{needs}
 use Rattle.map.proofs.cells.first_place.Statement.{statement}
 use Rattle.map.proofs.cells.first_place.Tie as tie
 
-length-requires : tie.Need-length-requires
-length-requires c κs = search needs
+places-requires : tie.Need-places-requires
+places-requires c κs = search needs
 
 returns : tie.Need-returns
-returns c = search size-all
+returns c = search first-all
 
 first-at-requires : tie.Need-first-at-requires
 first-at-requires c κs = search needs
@@ -17,8 +17,8 @@ add-result : tie.Need-add-result
 add-result c = search needs
 
 returns-2 : tie.Need-returns-2
-returns-2 c = search size-all
+returns-2 c = search first-all
 
 pub first-place-spec : {M : Type 1} → statement M
 first-place-spec =
-    tie.close (tie.spec length-requires returns first-at-requires add-result returns-2)
+    tie.close (tie.spec places-requires returns first-at-requires add-result returns-2)

@@ -13,8 +13,8 @@ returns c = search check-all
 returns-2 : tie.Need-returns-2
 returns-2 c = search check-all
 
-length-requires : tie.Need-length-requires
-length-requires c κs = search needs
+places-requires : tie.Need-places-requires
+places-requires c κs = search needs
 
 returns-3 : tie.Need-returns-3
 returns-3 c = search check-all
@@ -24,4 +24,4 @@ returns-4 c = search check-all
 
 pub place-refusal-spec : {M : Type 1} → statement M
 place-refusal-spec =
-    tie.close (tie.spec refusal-requires returns returns-2 length-requires returns-3 returns-4)
+    tie.close (tie.spec refusal-requires returns returns-2 places-requires returns-3 returns-4)

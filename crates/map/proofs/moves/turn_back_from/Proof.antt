@@ -1,5 +1,5 @@
 -- `map::moves::turn_back_from` meets its contract. Assumes nothing.
-use Rattle.map.proofs.Walks.{turn-all}
+use Rattle.map.proofs.Turns.{turn-all}
 use borrow.Author.Needs.{needs}
 use Rattle.map.proofs.moves.turn_back_from.Statement.{statement}
 use Rattle.map.proofs.moves.turn_back_from.Tie as tie

@@ -1,5 +1,5 @@
 -- `map::moves::turn_from` meets its contract. Assumes nothing.
-use Rattle.map.proofs.Walks.{turn-all}
+use Rattle.map.proofs.Turns.{turn-all}
 use borrow.Author.Needs.{needs}
 use Rattle.map.proofs.moves.turn_from.Statement.{statement}
 use Rattle.map.proofs.moves.turn_from.Tie as tie
@@ -13,8 +13,8 @@ returns c = search turn-all
 add-if2 : tie.Need-add-if2
 add-if2 c = search needs
 
-length-requires : tie.Need-length-requires
-length-requires c κs = search needs
+places-requires : tie.Need-places-requires
+places-requires c κs = search needs
 
 returns-2 : tie.Need-returns-2
 returns-2 c = search turn-all
@@ -28,4 +28,4 @@ returns-3 c = search turn-all
 pub turn-from-spec : {M : Type 1} → statement M
 turn-from-spec =
     tie.close
-    (tie.spec mate-at-requires returns add-if2 length-requires returns-2 add-result returns-3)
+    (tie.spec mate-at-requires returns add-if2 places-requires returns-2 add-result returns-3)

@@ -4,8 +4,8 @@ use borrow.Author.Needs.{needs}
 use Rattle.map.proofs.search.join_at.Statement.{statement}
 use Rattle.map.proofs.search.join_at.Tie as tie
 
-length-requires : tie.Need-length-requires
-length-requires c κs = search needs
+places-requires : tie.Need-places-requires
+places-requires c κs = search needs
 
 returns : tie.Need-returns
 returns c = search joining-all
@@ -26,7 +26,7 @@ pub join-at-spec : {M : Type 1} → statement M
 join-at-spec =
     tie.close
     (tie.spec
-    length-requires
+    places-requires
     returns
     size-at-requires
     first-at-requires

@@ -1,0 +1,72 @@
+-- A status of 0 is success: no call declines with the number 0.
+--
+-- own-tells  == so of a call's own answer after its checks
+-- move-tells, first-tells, size-tells, joining-tells, open-tells == so of every call
+-- Assumes nothing.
+use mathlib.Core.Path.{_≡_, refl}
+use mathlib.Core.Bool.{Bool, true, false, _&&_}
+use mathlib.Core.List.{List}
+use Prim.Native.Nat.{ℕ, zero, suc, pred}
+use native.Mathlib.Omega.{arith}
+use lib.Dec.{ltb, leb}
+use Rattle.count.specs.Below.{pick}
+use Rattle.words.specs.Brackets.{first}
+use Rattle.words.specs.Word.{round, seen}
+use Rattle.drawing.specs.Drawing.{Cell}
+use Rattle.drawing.specs.Session.{Answer, answer, refused, numberOf, Call}
+use Rattle.drawing.specs.Book.{noSuch}
+use Rattle.format.specs.Bytes.{Size, sizeIn, wordIn}
+use Rattle.format.specs.Open.{openRefusal, afterRefusal, opened, openOf}
+use Rattle.format.specs.Calls.{moveIn, atPlace, mapAnswer, isNumber, firstIn, firstOf, placesIn, sizeOf, joinIn, joiningOf}
+use Rattle.pmap.specs.Cells.{Tells}
+
+refused-tells : {A : Type 0} (k : ℕ) → (k ≡ 0 → ⊥) → Tells {A = A} (refused k)
+unfolding numberOf
+refused-tells k m = record { answered = λ e. absurd (m e) }
+
+answer-tells : {A : Type 0} (x : A) → Tells (answer x)
+answer-tells x = record { answered = λ e. (x, refl) }
+
+-- a call's own answer, after opening
+opened-tells : {A : Type 0} (o : ℕ) (a : Answer A) → Tells a → Tells (afterRefusal o a)
+opened-tells zero a h = h
+opened-tells (suc o) a h = refused-tells (suc o) (λ e. omega arith)
+
+own-tells : (t : Bool) (x k : ℕ) → (k ≡ 0 → ⊥) → Tells (pick t (answer x) (refused k))
+own-tells true x k m = answer-tells x
+own-tells false x k m = refused-tells k m
+
+no-such-some : (c : Cell) → noSuch c ≡ 0 → ⊥
+no-such-some Cell.point e = omega arith
+no-such-some Cell.area e = omega arith
+
+module _ (s : List ℕ) where
+  pub open-tells : Tells (openOf s)
+  unfolding openOf opened
+  open-tells = opened-tells (openRefusal s) (answer (sizeIn s)) (answer-tells (sizeIn s))
+
+  pub move-tells : (c : Call) (i : ℕ) → Tells (mapAnswer s c i)
+  unfolding mapAnswer opened atPlace
+  move-tells c i =
+      opened-tells (openRefusal s) (atPlace (wordIn s) c i)
+      (own-tells (ltb 0 i && leb i (wordIn s .size)) (moveIn (wordIn s) c (pred i)) 13 (λ e. omega arith))
+
+  own-cell : (c : Cell) (k x : ℕ) → Tells (afterRefusal (openRefusal s) (pick (isNumber (sizeIn s) c k) (answer x) (refused (noSuch c))))
+  own-cell c k x =
+      opened-tells (openRefusal s) (pick (isNumber (sizeIn s) c k) (answer x) (refused (noSuch c)))
+      (own-tells (isNumber (sizeIn s) c k) x (noSuch c) (no-such-some c))
+
+  pub first-tells : (c : Cell) (k : ℕ) → Tells (firstOf s c k)
+  unfolding firstOf opened
+  first-tells c k = own-cell c k (firstIn (wordIn s) c k)
+
+  pub size-tells : (c : Cell) (k : ℕ) → Tells (sizeOf s c k)
+  unfolding sizeOf opened
+  size-tells c k = own-cell c k (placesIn (wordIn s) c k)
+
+  pub joining-tells : (u v : ℕ) → Tells (joiningOf s u v)
+  unfolding joiningOf opened
+  joining-tells u v =
+      let t : Bool = isNumber (sizeIn s) Cell.point u && isNumber (sizeIn s) Cell.point v in
+      let x : ℕ = joinIn (wordIn s) v (placesIn (wordIn s) Cell.point u) (first (seen round (wordIn s)) (wordIn s .size) u) in
+      opened-tells (openRefusal s) (pick t (answer x) (refused 14)) (own-tells t x 14 (λ e. omega arith))

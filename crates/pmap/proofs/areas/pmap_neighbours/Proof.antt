@@ -1,0 +1,17 @@
+-- `pmap::areas::pmap_neighbours` meets its contract. Assumes nothing.
+use borrow.Author.Needs.{needs}
+use Rattle.pmap.proofs.Given.{call-all}
+use Rattle.pmap.proofs.areas.pmap_neighbours.Statement.{statement}
+use Rattle.pmap.proofs.areas.pmap_neighbours.Tie as tie
+
+neighbours-requires : tie.Need-neighbours-requires
+neighbours-requires c κs = search needs
+
+give-count-requires : tie.Need-give-count-requires
+give-count-requires c κs = search call-all
+
+returns : tie.Need-returns
+returns c = search call-all
+
+pub pmap-neighbours-spec : {M : Type 1} → statement M
+pmap-neighbours-spec = tie.close (tie.spec neighbours-requires give-count-requires returns)

@@ -1,0 +1,28 @@
+-- What a call leaves in the cell that a C host lends for its answer. The status that it returns is `numberOf` of the same answer.
+--
+-- cellAfter a old == the answer, or what the cell held before where the call declines
+-- bordersGiven, pointsGiven == m and n of an answer of opening, each for a cell of its own
+-- Tells a         == a status of 0 says that there is an answer, and so that the cell holds it
+-- Assumes nothing.
+use mathlib.Core.Path.{_≡_}
+use Prim.Native.Nat.{ℕ}
+use Rattle.drawing.specs.Session.{Answer, answer, refused, numberOf}
+use Rattle.format.specs.Bytes.{Size}
+
+-- 01: "Output memory is unchanged."
+unfoldable pub cellAfter : Answer ℕ → ℕ → ℕ
+cellAfter (answer x) old = x
+cellAfter (refused k) old = old
+
+-- 01: "Opening gives m and n"
+abbrev pub bordersGiven : Answer Size → Answer ℕ
+bordersGiven (answer z) = answer (z .m)
+bordersGiven (refused k) = refused k
+
+abbrev pub pointsGiven : Answer Size → Answer ℕ
+pointsGiven (answer z) = answer (z .n)
+pointsGiven (refused k) = refused k
+
+-- the C interface: "Status 0 is success, else the refusal's number, and then nothing was written."
+pub record Tells {A : Type 0} (a : Answer A) : Type 0 where
+  pub answered : numberOf a ≡ 0 → (x : A) × (a ≡ answer x)

@@ -1,0 +1,69 @@
+// From an answer to a status and a cell.
+use map::AreaAnswer;
+use map::Count;
+use map::PlaceAnswer;
+use map::PointAnswer;
+ghost use mathlib.Core.Path.{_≡_};
+ghost use Prim.Native.Nat.{_<_};
+ghost use Rattle.drawing.specs.Session.{numberOf};
+ghost use Rattle.map.specs.Answers.{placeMeans, pointMeans, areaMeans, countMeans};
+ghost use Rattle.pmap.specs.Cells.{cellAfter};
+
+pub fn give_place(a: PlaceAnswer, out: &mut u16) -> u8
+    requires { ⌜ cellAfter (placeMeans a) 0 < 65536 ⌝ }
+    ensures { λ r. ⌜ r ≡ numberOf (placeMeans a) ⌝ }
+    ensures { λ _. ⌜ now (out .exit) ≡ cellAfter (placeMeans a) (now (out .entry)) ⌝ }
+{
+    match a {
+        PlaceAnswer::At(p) => {
+            let x = p.0;
+            *out = x as u16;
+            0
+        }
+        PlaceAnswer::Declined(k) => k,
+    }
+}
+
+pub fn give_point(a: PointAnswer, out: &mut u16) -> u8
+    requires { ⌜ cellAfter (pointMeans a) 0 < 65536 ⌝ }
+    ensures { λ r. ⌜ r ≡ numberOf (pointMeans a) ⌝ }
+    ensures { λ _. ⌜ now (out .exit) ≡ cellAfter (pointMeans a) (now (out .entry)) ⌝ }
+{
+    match a {
+        PointAnswer::Is(p) => {
+            let x = p.0;
+            *out = x as u16;
+            0
+        }
+        PointAnswer::Declined(k) => k,
+    }
+}
+
+pub fn give_area(a: AreaAnswer, out: &mut u16) -> u8
+    requires { ⌜ cellAfter (areaMeans a) 0 < 65536 ⌝ }
+    ensures { λ r. ⌜ r ≡ numberOf (areaMeans a) ⌝ }
+    ensures { λ _. ⌜ now (out .exit) ≡ cellAfter (areaMeans a) (now (out .entry)) ⌝ }
+{
+    match a {
+        AreaAnswer::Is(p) => {
+            let x = p.0;
+            *out = x as u16;
+            0
+        }
+        AreaAnswer::Declined(k) => k,
+    }
+}
+
+pub fn give_count(a: Count, out: &mut u16) -> u8
+    requires { ⌜ cellAfter (countMeans a) 0 < 65536 ⌝ }
+    ensures { λ r. ⌜ r ≡ numberOf (countMeans a) ⌝ }
+    ensures { λ _. ⌜ now (out .exit) ≡ cellAfter (countMeans a) (now (out .entry)) ⌝ }
+{
+    match a {
+        Count::Of(x) => {
+            *out = x as u16;
+            0
+        }
+        Count::Declined(k) => k,
+    }
+}

@@ -1,0 +1,34 @@
+// The C interface of a packed map (include/pmap.h; the archive is libpmap.a).
+//
+//     pmap_open                                              m and n
+//     pmap_cross, pmap_turn, pmap_turn_back, pmap_along      from a place to a place
+//     pmap_point, pmap_area                                  the point and the area of a place
+//     pmap_point_first, pmap_degree                          of a point
+//     pmap_area_first, pmap_sides, pmap_neighbours           of an area
+//     pmap_joining                                           the joining border of two points
+//
+// Conventions. Each function returns a status: 0, or the number of the check that declines. The answer goes to
+// a cell that the host lends, and a call that declines leaves the cell as it was. Numbers come in as usize, so
+// that nothing is cut: place 65,537 is declined, not taken for 1. No function asks anything of its caller.
+//
+// The functions only pass on what the crates `card` and `map` answer. The definitions that the contracts cite are
+// those of the crate `format`; specs/Cells.antt says what a cell holds after a call.
+mod areas;
+mod cells;
+mod opening;
+mod places;
+mod points;
+
+pub use areas::pmap_area_first;
+pub use areas::pmap_neighbours;
+pub use areas::pmap_sides;
+pub use opening::pmap_open;
+pub use places::pmap_along;
+pub use places::pmap_area;
+pub use places::pmap_cross;
+pub use places::pmap_point;
+pub use places::pmap_turn;
+pub use places::pmap_turn_back;
+pub use points::pmap_degree;
+pub use points::pmap_joining;
+pub use points::pmap_point_first;

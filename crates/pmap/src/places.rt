@@ -1,0 +1,63 @@
+// Calls about a place: the four moves, and its point and area.
+use crate::cells::give_area;
+use crate::cells::give_place;
+use crate::cells::give_point;
+use map::Place;
+ghost use mathlib.Core.Path.{_≡_};
+ghost use Rattle.drawing.specs.Session.{numberOf};
+ghost use Rattle.format.specs.Calls.{crossOf, turnOf, turnBackOf, alongOf, pointOf, areaOf};
+ghost use Rattle.pmap.specs.Cells.{cellAfter};
+
+// The place of the other end.
+#[no_mangle]
+pub extern "C" fn pmap_cross(map: &[u8], place: usize, out: &mut u16) -> u8
+    ensures { λ r. ⌜ r ≡ numberOf (crossOf (now (map .entry)) place) ⌝ }
+    ensures { λ _. ⌜ now (out .exit) ≡ cellAfter (crossOf (now (map .entry)) place) (now (out .entry)) ⌝ }
+{
+    give_place(map::cross(map, Place(place)), out)
+}
+
+// The next place about the point, or 0 at its last place.
+#[no_mangle]
+pub extern "C" fn pmap_turn(map: &[u8], place: usize, out: &mut u16) -> u8
+    ensures { λ r. ⌜ r ≡ numberOf (turnOf (now (map .entry)) place) ⌝ }
+    ensures { λ _. ⌜ now (out .exit) ≡ cellAfter (turnOf (now (map .entry)) place) (now (out .entry)) ⌝ }
+{
+    give_place(map::turn(map, Place(place)), out)
+}
+
+// The reverse, or 0 at the point's first place.
+#[no_mangle]
+pub extern "C" fn pmap_turn_back(map: &[u8], place: usize, out: &mut u16) -> u8
+    ensures { λ r. ⌜ r ≡ numberOf (turnBackOf (now (map .entry)) place) ⌝ }
+    ensures { λ _. ⌜ now (out .exit) ≡ cellAfter (turnBackOf (now (map .entry)) place) (now (out .entry)) ⌝ }
+{
+    give_place(map::turn_back(map, Place(place)), out)
+}
+
+// The next place of the area walk.
+#[no_mangle]
+pub extern "C" fn pmap_along(map: &[u8], place: usize, out: &mut u16) -> u8
+    ensures { λ r. ⌜ r ≡ numberOf (alongOf (now (map .entry)) place) ⌝ }
+    ensures { λ _. ⌜ now (out .exit) ≡ cellAfter (alongOf (now (map .entry)) place) (now (out .entry)) ⌝ }
+{
+    give_place(map::along(map, Place(place)), out)
+}
+
+// The point of the place.
+#[no_mangle]
+pub extern "C" fn pmap_point(map: &[u8], place: usize, out: &mut u16) -> u8
+    ensures { λ r. ⌜ r ≡ numberOf (pointOf (now (map .entry)) place) ⌝ }
+    ensures { λ _. ⌜ now (out .exit) ≡ cellAfter (pointOf (now (map .entry)) place) (now (out .entry)) ⌝ }
+{
+    give_point(map::point_at(map, Place(place)), out)
+}
+
+// The area of the place.
+#[no_mangle]
+pub extern "C" fn pmap_area(map: &[u8], place: usize, out: &mut u16) -> u8
+    ensures { λ r. ⌜ r ≡ numberOf (areaOf (now (map .entry)) place) ⌝ }
+    ensures { λ _. ⌜ now (out .exit) ≡ cellAfter (areaOf (now (map .entry)) place) (now (out .entry)) ⌝ }
+{
+    give_area(map::area_at(map, Place(place)), out)
+}

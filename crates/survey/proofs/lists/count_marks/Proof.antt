@@ -1,0 +1,48 @@
+-- `survey::lists::count_marks` meets its contract. The loop keeps `Marked`: the count of the marks passed. Assumes nothing.
+use mathlib.Core.Logic.{⊎-elim}
+use Prim.Native.Nat.{_-_}
+use lib.ListN.{length}
+use Rattle.survey.proofs.Scans.{Marked, count-marks-all}
+use Rattle.survey.proofs.lists.count_marks.Statement.{statement}
+use Rattle.survey.proofs.lists.count_marks.Tie as tie
+
+abbrev Inv-loop : tie.InvT-loop
+Inv-loop marks e₀ n₀ e n = Marked marks e n
+
+abbrev μ-loop : tie.MeasureT-loop
+μ-loop marks e₀ n₀ e n = length marks - e
+
+loop-holds : tie.Need-loop-holds Inv-loop μ-loop
+loop-holds c = search count-marks-all
+
+shared-slice-read-if1 : tie.Need-shared-slice-read-if1 Inv-loop μ-loop
+shared-slice-read-if1 c = search count-marks-all
+
+add-n : tie.Need-add-n Inv-loop μ-loop
+add-n c = search count-marks-all
+
+add-e : tie.Need-add-e Inv-loop μ-loop
+add-e c = search count-marks-all
+
+loop-less : tie.Need-loop-less Inv-loop μ-loop
+loop-less c = search count-marks-all
+
+loop-again : tie.Need-loop-again Inv-loop μ-loop
+loop-again c = ⊎-elim (λ w. search count-marks-all) (λ w. search count-marks-all) (c .if1 .came)
+
+returns : tie.Need-returns Inv-loop μ-loop
+returns c = search count-marks-all
+
+pub count-marks-spec : {M : Type 1} → statement M
+count-marks-spec =
+    tie.close
+    (tie.spec
+    Inv-loop
+    μ-loop
+    loop-holds
+    shared-slice-read-if1
+    add-n
+    add-e
+    loop-less
+    loop-again
+    returns)

@@ -1,0 +1,48 @@
+-- A drawing lent as slices, and the working list lent beside it.
+--
+-- lent ts ms s     == the drawing with turning list ts, marks ms and start s
+-- Answers f ts r   == r is f of every drawing with turning list ts and half as many marks
+-- next ts h        == entry h of the turning list
+-- Ranged ts        == every entry is below the list's length
+-- Binary ms        == every mark is 0 or 1
+-- Differ ts        == no two entries are equal
+-- Turns ts         == the turning list is a permutation of its ends
+-- Blank k work     == the working list has at least k entries, and its first k are 0
+-- Kept k old new   == the lists are equally long, and equal from entry k on
+-- Assumes nothing.
+use mathlib.Core.Path.{_≡_}
+use mathlib.Core.Logic.{_≢_}
+use mathlib.Core.List.{List}
+use Prim.Native.Nat.{ℕ, _*_, _<_, _≤_}
+use lib.ListN.{length, getD}
+use Rattle.orbits.specs.Cycles.{Permutes}
+use Rattle.drawing.specs.Drawing.{Drawing}
+
+abbrev pub lent : List ℕ → List ℕ → ℕ → Drawing
+lent ts ms s = record { turning = ts; marks = ms; start = s }
+
+abbrev pub Answers : {X : Type 0} → (Drawing → X) → List ℕ → X → Type 0
+Answers f ts r = (ms : List ℕ) (s : ℕ) → length ts ≡ 2 * length ms → r ≡ f (lent ts ms s)
+
+abbrev pub next : List ℕ → ℕ → ℕ
+next ts h = getD ts h 0
+
+pub record Ranged (ts : List ℕ) : Type 0 where
+  pub below : (h : ℕ) → h < length ts → next ts h < length ts
+
+pub record Binary (ms : List ℕ) : Type 0 where
+  pub small : (e : ℕ) → e < length ms → getD ms e 0 ≤ 1
+
+pub record Differ (ts : List ℕ) : Type 0 where
+  pub differ : (i j : ℕ) → i < j → j < length ts → next ts i ≢ next ts j
+
+abbrev pub Turns : List ℕ → Type 0
+Turns ts = Permutes (length ts) (next ts)
+
+pub record Blank (k : ℕ) (work : List ℕ) : Type 0 where
+  pub room : k ≤ length work
+  pub zero : (i : ℕ) → i < k → getD work i 0 ≡ 0
+
+pub record Kept (k : ℕ) (old new : List ℕ) : Type 0 where
+  pub same-length : length new ≡ length old
+  pub rest : (i : ℕ) → k ≤ i → getD new i 0 ≡ getD old i 0

@@ -1,0 +1,86 @@
+// What one pass over each list tells: lengths, ranges, marks.
+use crate::work::wide;
+ghost use mathlib.Core.Path.{_≡_};
+ghost use mathlib.Core.List.{List};
+ghost use Prim.Native.Nat.{ℕ, _≤_, _<_, max};
+ghost use lib.ListN.{length};
+ghost use Rattle.count.specs.Below.{Decides};
+ghost use Rattle.drawing.specs.Checks.{LengthsFit, lengthsFit, inRange, markCount};
+ghost use Rattle.survey.specs.Lent.{lent, Ranged, Binary};
+
+// 1: the turning list is twice as long as the marks, and at most 4,096 long.
+pub fn lengths_fit(turning: &[u16], marks: &[u8]) -> bool
+    ensures { λ r. ⌜ ((s : ℕ) → r ≡ lengthsFit (lent (now (turning .entry)) (now (marks .entry)) s)) ⌝ }
+{
+    let n = turning.len();
+    if 4096 < n {
+        return false;
+    }
+    n == 2 * marks.len()
+}
+
+// 3: entries and start are below 2m, the start 0 for m = 0, and marks are 0 or 1.
+pub fn in_range(turning: &[u16], marks: &[u8], start: usize) -> bool
+    requires { ⌜ LengthsFit (lent (now turning) (now marks) start) ⌝ }
+    ensures { λ r. ⌜ r ≡ inRange (lent (now (turning .entry)) (now (marks .entry)) start) ⌝ }
+{
+    if larger(turning.len(), 1) <= start {
+        return false;
+    }
+    if entries_below(turning) {
+        marks_fit(marks)
+    } else {
+        false
+    }
+}
+
+// How many borders are marked.
+pub fn count_marks(marks: &[u8]) -> usize
+    ensures { λ r. ⌜ ((ts : List ℕ) (s : ℕ) → r ≡ markCount (lent ts (now (marks .entry)) s)) ⌝ }
+    ensures { λ r. ⌜ r ≤ length (now (marks .entry)) ⌝ }
+{
+    let mut e = 0;
+    let mut n: usize = 0;
+    while e < marks.len() {
+        if marks[e] == 1 {
+            n += 1;
+        }
+        e += 1;
+    }
+    n
+}
+
+// Whether every entry is below the list's length.
+fn entries_below(turning: &[u16]) -> bool
+    ensures { λ r. ⌜ Decides r (Ranged (now (turning .entry))) ⌝ }
+{
+    let n = turning.len();
+    let mut h = 0;
+    while h < n {
+        if n <= wide(turning[h]) {
+            return false;
+        }
+        h += 1;
+    }
+    true
+}
+
+// Whether every mark is 0 or 1.
+fn marks_fit(marks: &[u8]) -> bool
+    ensures { λ r. ⌜ Decides r (Binary (now (marks .entry))) ⌝ }
+{
+    let mut e = 0;
+    while e < marks.len() {
+        if 1 < marks[e] {
+            return false;
+        }
+        e += 1;
+    }
+    true
+}
+
+fn larger(a: usize, b: usize) -> usize
+    ensures { λ r. ⌜ r ≡ max a b ⌝ }
+{
+    if a < b { b } else { a }
+}

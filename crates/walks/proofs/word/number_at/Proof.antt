@@ -1,0 +1,38 @@
+-- `walks::word::number_at` meets its contract. Assumes nothing.
+use Rattle.walks.proofs.Walks.{word-all}
+use borrow.Author.Needs.{needs}
+use Rattle.walks.proofs.word.number_at.Statement.{statement}
+use Rattle.walks.proofs.word.number_at.Tie as tie
+
+string-b-requires : tie.Need-string-b-requires
+string-b-requires c κs = search needs
+
+string-a-requires : tie.Need-string-a-requires
+string-a-requires c κs = search needs
+
+rank-requires : tie.Need-rank-requires
+rank-requires c κs = search needs
+
+enclosing-requires : tie.Need-enclosing-requires
+enclosing-requires c κs = search needs
+
+rank-requires-2 : tie.Need-rank-requires-2
+rank-requires-2 c κs = search needs
+
+add-result : tie.Need-add-result
+add-result c = search needs
+
+returns : tie.Need-returns
+returns c = search word-all
+
+pub number-at-spec : {M : Type 1} → statement M
+number-at-spec =
+    tie.close
+    (tie.spec
+    string-b-requires
+    string-a-requires
+    rank-requires
+    enclosing-requires
+    rank-requires-2
+    add-result
+    returns)

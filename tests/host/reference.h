@@ -1,0 +1,64 @@
+/*
+ * Document 01 once more, from the drawing's side: what is wrong with a card, the drawing that its bytes unpack to, and the
+ * drawing's book. Written from document 01 alone, so that the library can be compared with it; slow and plain on purpose.
+ */
+#ifndef REFERENCE_H
+#define REFERENCE_H
+
+#include <stddef.h>
+#include <stdint.h>
+
+enum { MOST_BORDERS = 2048, MOST_ENDS = 2 * MOST_BORDERS, LONGEST = 1029 };
+
+/* "The drawing": border e has the ends 2e and 2e+1; turning[h] follows end h counterclockwise about its point. */
+struct drawing {
+    size_t m;
+    uint16_t turning[MOST_ENDS];
+    uint8_t marks[MOST_BORDERS];
+    size_t start;
+};
+
+/* "The drawing's book": the drawing and its tour. Places, points and areas count from 1. */
+struct book {
+    const struct drawing *drawing;
+    size_t n, areas;
+    size_t place_of[MOST_ENDS];    /* end to place */
+    size_t end_at[MOST_ENDS + 1];  /* place to end */
+    size_t end_before[MOST_ENDS];  /* the end whose entry is h */
+    size_t point_of[MOST_ENDS], area_of[MOST_ENDS];
+    size_t point_first[MOST_BORDERS + 2], degree[MOST_BORDERS + 2];
+    size_t area_first[MOST_BORDERS + 2], sides[MOST_BORDERS + 2];
+};
+
+/* What a call gives: status 0 and a value, or document 01's number. */
+struct reply {
+    uint8_t status;
+    size_t value;
+};
+
+/* The first of 3 to 7 that applies to a drawing whose lists have the right lengths; 0 where none does. */
+uint8_t drawing_refusal(const struct drawing *d);
+
+/* The first of 8 to 12 that applies to the bytes; 0 where none does, and then the drawing that they unpack to. */
+uint8_t unpack(const uint8_t *map, size_t length, struct drawing *d);
+
+/* The book of a drawing that drawing_refusal accepts. Gives 0 if its tour does not meet every end once, else 1. */
+int make_book(const struct drawing *d, struct book *b);
+
+/* The bytes of a packed drawing, by its tour. Gives their length. */
+size_t pack(const struct book *b, uint8_t *map);
+
+struct reply book_cross(const struct book *b, size_t place);
+struct reply book_turn(const struct book *b, size_t place);
+struct reply book_turn_back(const struct book *b, size_t place);
+struct reply book_along(const struct book *b, size_t place);
+struct reply book_point(const struct book *b, size_t place);
+struct reply book_area(const struct book *b, size_t place);
+struct reply book_point_first(const struct book *b, size_t point);
+struct reply book_degree(const struct book *b, size_t point);
+struct reply book_area_first(const struct book *b, size_t area);
+struct reply book_sides(const struct book *b, size_t area);
+struct reply book_neighbours(const struct book *b, size_t area);
+struct reply book_joining(const struct book *b, size_t u, size_t v);
+
+#endif
