@@ -23,11 +23,6 @@ static void put_bit(uint8_t *string, size_t i, unsigned bit)
     string[i / 8] |= (uint8_t)(bit << i % 8);
 }
 
-static size_t bytes_of(size_t bits)
-{
-    return (bits + 7) / 8;
-}
-
 static void put_header(struct card *card, size_t m, size_t n)
 {
     memset(card->bytes, 0, sizeof card->bytes);

@@ -30,6 +30,16 @@ struct book {
     size_t area_first[MOST_BORDERS + 2], sides[MOST_BORDERS + 2];
 };
 
+/* The other end of a border; whether an end's border is marked. */
+size_t other(size_t h);
+int marked(const struct drawing *d, size_t h);
+
+/* "The tour": after a marked end comes the entry of its other end, after an unmarked end its own entry. */
+size_t tour_after(const struct drawing *d, size_t h);
+
+/* How many bytes so many bits take, from a fresh byte. */
+size_t bytes_of(size_t bits);
+
 /* What a call gives: status 0 and a value, or document 01's number. */
 struct reply {
     uint8_t status;

@@ -5,14 +5,14 @@
 -- own-small      == an answer is small if it is where the checks pass
 -- move-small, first-small, size-small, joining-small, open-small == every answer of a call is below 65,536
 -- Assumes nothing.
-use mathlib.Core.Path.{_≡_, refl, sym, ap}
+use mathlib.Core.Path.{_≡_, refl}
 use mathlib.Core.Bool.{Bool, true, false, _&&_}
 use mathlib.Core.List.{List}
 use Prim.Native.Nat.{ℕ, zero, suc, pred, _+_, _<_, _≤_}
 use native.Mathlib.Omega.{arith}
 use lib.Dec.{eqb, ltb, leb}
 use borrow.Author.Tests.{leb-true}
-use Rattle.count.specs.Below.{pick, count}
+use Rattle.count.specs.Below.{pick}
 use Rattle.count.proofs.Logic.{both-right}
 use Rattle.count.proofs.Search.{find-le}
 use Rattle.count.proofs.Counts.{count-le}
@@ -20,7 +20,7 @@ use Rattle.words.specs.Brackets.{Bracket, opens, closes, neither, isOpens, isCl
 use Rattle.words.specs.Word.{Word, round, square, seen, crossing}
 use Rattle.words.proofs.Stack.{inner-le}
 use Rattle.drawing.specs.Drawing.{Cell}
-use Rattle.drawing.specs.Session.{Answer, answer, refused, Call}
+use Rattle.drawing.specs.Session.{answer, refused, Call}
 use Rattle.drawing.specs.Book.{noSuch}
 use Rattle.format.specs.Bytes.{Size, sizeIn, wordIn}
 use Rattle.format.specs.Open.{openRefusal, afterRefusal, opened, openOf}

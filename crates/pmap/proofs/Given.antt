@@ -1,11 +1,12 @@
 -- Statuses and cells of the calls: a call passes on the answer a of the crates below, which is what the definition gives.
 --
 -- status-same, cell-same == equal answers have one status, and leave one cell
--- cross-fits, turn-fits, turn-back-fits, along-fits, point-fits, area-fits, first-fits, count-fits, neighbours-fit, join-fits
---                    == the answer fits the cell
--- open-fits, borders-same, points-same == the same of opening, which has two cells
+-- place-value, point-value, area-value, count-value, borders-value, points-value == the number in an answer that fits is below 65,536
+-- cross-fits, turn-fits, turn-back-fits, along-fits, point-fits, area-fits, first-fits, size-fits, neighbours-fit, joining-fits
+--                           == what a call answers fits its cell
+-- borders-same, points-same, borders-fit, points-fit == the same of opening, which has two cells
 -- Assumes nothing.
-use mathlib.Core.Path.{_≡_, sym, ap, _∙_, subst}
+use mathlib.Core.Path.{_≡_, ap, _∙_}
 use mathlib.Core.List.{List}
 use Prim.Native.Nat.{ℕ, _<_}
 use borrow.Author.Needs.{needs}
@@ -13,7 +14,7 @@ use Rattle.drawing.specs.Drawing.{Cell}
 use Rattle.drawing.specs.Session.{Answer, numberOf, Call}
 use Rattle.format.specs.Bytes.{Size}
 use Rattle.format.specs.Open.{openOf}
-use Rattle.format.specs.Calls.{mapAnswer, crossOf, turnOf, turnBackOf, alongOf, pointOf, areaOf, firstOf, sizeOf, neighboursOf, joiningOf}
+use Rattle.format.specs.Calls.{crossOf, turnOf, turnBackOf, alongOf, pointOf, areaOf, firstOf, sizeOf, neighboursOf, joiningOf}
 use Rattle.card.specs.Answers.{openedMeans}
 use Rattle.card.specs.declared.answers.Opened.{Opened}
 use Rattle.map.specs.Answers.{placeMeans, pointMeans, areaMeans, countMeans}

@@ -15,7 +15,7 @@ use Rattle.words.specs.Word.{round, seen}
 use Rattle.drawing.specs.Drawing.{Cell}
 use Rattle.drawing.specs.Session.{Answer, answer, refused, numberOf, Call}
 use Rattle.drawing.specs.Book.{noSuch}
-use Rattle.format.specs.Bytes.{Size, sizeIn, wordIn}
+use Rattle.format.specs.Bytes.{sizeIn, wordIn}
 use Rattle.format.specs.Open.{openRefusal, afterRefusal, opened, openOf}
 use Rattle.format.specs.Calls.{moveIn, atPlace, mapAnswer, isNumber, firstIn, firstOf, placesIn, sizeOf, joinIn, joiningOf}
 use Rattle.pmap.specs.Cells.{Tells}

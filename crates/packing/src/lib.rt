@@ -1,0 +1,19 @@
+// Packing a drawing: checks 1 to 7 of document 01, the tour, and the map's bytes. Linear in the number of borders.
+//
+//     pack   writes the map, or names the check that declines
+//
+// Conventions. A drawing is lent as its turning list, its marks and its start; in a contract it is
+// `lent` of the crate `survey`. The working list has three thirds of 2m entries: the tour, which
+// places are second, and a stack. It is used after check 3 and left with its first 6m entries 0.
+// The output is touched only where every check passed.
+//
+// The definitions that the contracts cite are in specs/ and in the crates `drawing` and `format`.
+mod answers;
+mod checks;
+mod crossing;
+mod tour;
+mod work;
+mod write;
+
+pub use answers::Packed;
+pub use checks::pack;

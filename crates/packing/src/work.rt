@@ -1,0 +1,19 @@
+// Numbers of the working list.
+ghost use mathlib.Core.Path.{_≡_};
+ghost use Prim.Native.Nat.{_<_, _/_};
+ghost use lib.ListN.{length};
+ghost use Rattle.packing.specs.Working.{borderIn};
+
+pub fn wide(x: u16) -> usize
+    ensures { λ r. ⌜ (r ≡ x) × (r < 65536) ⌝ }
+{
+    x as usize
+}
+
+// The border of the end that stands at position p.
+pub fn border_in(work: &[u16], p: usize) -> usize
+    requires { ⌜ p < length (now work) ⌝ }
+    ensures { λ r. ⌜ r ≡ borderIn (now (work .entry)) p ⌝ }
+{
+    wide(work[p]) / 2
+}

@@ -1,0 +1,4 @@
+-- Unpacking a packed map: the laws.
+pub mod Placed
+pub mod Written
+pub mod Answered

@@ -1,0 +1,20 @@
+-- `unpack::ends::opens_before` meets its contract. Assumes nothing.
+use Rattle.unpack.proofs.Placed.{placed-all}
+use borrow.Author.Needs.{needs}
+use Rattle.unpack.proofs.ends.opens_before.Statement.{statement}
+use Rattle.unpack.proofs.ends.opens_before.Tie as tie
+
+openings-requires : tie.Need-openings-requires
+openings-requires c κs = search needs
+
+openings-requires-2 : tie.Need-openings-requires-2
+openings-requires-2 c κs = search needs
+
+add-result : tie.Need-add-result
+add-result c = search needs
+
+returns : tie.Need-returns
+returns c = search placed-all
+
+pub opens-before-spec : {M : Type 1} → statement M
+opens-before-spec = tie.close (tie.spec openings-requires openings-requires-2 add-result returns)

@@ -1,0 +1,294 @@
+/* Comparing the library with the book of a drawing. */
+#include "compare.h"
+
+#include <signal.h>
+#include <stdio.h>
+#include <stdlib.h>
+#include <string.h>
+#include <sys/mman.h>
+#include <unistd.h>
+
+#include "cards.h"
+#include "pmap.h"
+
+static int in_heap;
+
+/* ---- counting ---- */
+
+static unsigned long compared, differing, parts_passed, parts_failed;
+static unsigned long seen[256]; /* how often each status was rightly given */
+
+static void differs(const char *what, const uint8_t *map, size_t length, const char *detail)
+{
+    size_t i;
+    if (differing++ >= 5) return;
+    printf("  differs: %s: %s; the card has %zu bytes:", what, detail, length);
+    for (i = 0; i < length && i < 40; i++) printf(" %02X", map[i]);
+    printf("%s\n", length > 40 ? " .." : "");
+}
+
+void part_ends(const char *name)
+{
+    int good = compared > 0 && differing == 0;
+    printf("check: %s: %lu compared, %lu differ\n", name, compared, differing);
+    if (good) parts_passed++;
+    else parts_failed++;
+    compared = differing = 0;
+}
+
+void expect(int holds, const char *what, const char *otherwise)
+{
+    compared++;
+    if (!holds) differs(what, NULL, 0, otherwise);
+}
+
+unsigned long times_seen(uint8_t status)
+{
+    return seen[status];
+}
+
+unsigned long finish(void)
+{
+    printf("%lu passed, %lu failed\n", parts_passed, parts_failed);
+    return parts_failed;
+}
+
+/* ---- lending cards: the byte after the last one (or before the first one) can't be read ---- */
+
+enum { PAGE = 4096, ROOM = MOST_BYTES };
+
+static uint8_t *fenced; /* ROOM bytes between two pages without access */
+
+static void outside(int signal_number)
+{
+    static const char words[] = "  differs: the library reads or writes outside the card\n0 passed, 1 failed\n";
+    (void)signal_number;
+    if (write(STDOUT_FILENO, words, sizeof words - 1) < 0) _exit(2);
+    _exit(1);
+}
+
+void prepare(int heap)
+{
+    uint8_t *all = mmap(NULL, ROOM + 2 * PAGE, PROT_READ | PROT_WRITE, MAP_PRIVATE | MAP_ANONYMOUS, -1, 0);
+    if (all == MAP_FAILED || mprotect(all, PAGE, PROT_NONE) != 0 || mprotect(all + PAGE + ROOM, PAGE, PROT_NONE) != 0) {
+        printf("check: no memory\n0 passed, 1 failed\n");
+        exit(1);
+    }
+    in_heap = heap;
+    fenced = all + PAGE;
+    signal(SIGSEGV, outside);
+    signal(SIGBUS, outside);
+}
+
+static uint8_t *lend(const uint8_t *bytes, size_t length, int at_the_front)
+{
+    uint8_t *map = fenced + (at_the_front ? 0 : ROOM - length);
+    if (in_heap) map = malloc(length);
+    if (length > 0) memcpy(map, bytes, length);
+    return map;
+}
+
+/* The library may not change the card. */
+static void take_back(uint8_t *map, const uint8_t *bytes, size_t length)
+{
+    compared++;
+    if (length > 0 && memcmp(map, bytes, length) != 0) differs("card", bytes, length, "its bytes were changed");
+    if (in_heap) free(map);
+}
+
+/* ---- one answer ---- */
+
+enum { OLD = 0xBEEF, FENCE = 0xF00D }; /* no answer is so large */
+
+static void compare(const char *call, size_t u, size_t v, const uint8_t *map, size_t length, struct reply want, uint8_t status,
+                    const uint16_t *cells)
+{
+    size_t want_cell = want.status == 0 ? want.value : OLD;
+    compared++;
+    if (status == want.status && cells[0] == FENCE && cells[1] == want_cell && cells[2] == FENCE) {
+        seen[status]++;
+    } else {
+        char detail[200];
+        snprintf(detail, sizeof detail, "of %zu, %zu: status %u, wanted %u; cell %u, wanted %zu%s", u, v, status, want.status,
+                 cells[1], want_cell, cells[0] == FENCE && cells[2] == FENCE ? "" : "; a cell beside it was written");
+        differs(call, map, length, detail);
+    }
+}
+
+struct call {
+    const char *name;
+    library_call *library;
+    struct reply (*book)(const struct book *, size_t);
+};
+
+static const struct call of_place[] = {
+    {"pmap_cross", pmap_cross, book_cross}, {"pmap_turn", pmap_turn, book_turn}, {"pmap_turn_back", pmap_turn_back, book_turn_back},
+    {"pmap_along", pmap_along, book_along}, {"pmap_point", pmap_point, book_point}, {"pmap_area", pmap_area, book_area},
+};
+static const struct call of_point[] = {
+    {"pmap_point_first", pmap_point_first, book_point_first}, {"pmap_degree", pmap_degree, book_degree},
+};
+static const struct call of_area[] = {
+    {"pmap_area_first", pmap_area_first, book_area_first}, {"pmap_sides", pmap_sides, book_sides},
+    {"pmap_neighbours", pmap_neighbours, book_neighbours},
+};
+
+#define EACH(table, call) (call = table; call < table + sizeof table / sizeof *table; call++)
+
+/* The book is NULL where the card was refused: every call gets that number. */
+static void compare_call(const struct call *call, const uint8_t *map, size_t length, uint8_t opening, const struct book *b, size_t k)
+{
+    uint16_t cells[3] = {FENCE, OLD, FENCE};
+    struct reply want = {opening, 0};
+    if (opening == 0) want = call->book(b, k);
+    compare(call->name, k, 0, map, length, want, call->library(map, length, k, &cells[1]), cells);
+}
+
+static void compare_joining(const uint8_t *map, size_t length, uint8_t opening, const struct book *b, size_t u, size_t v)
+{
+    uint16_t cells[3] = {FENCE, OLD, FENCE};
+    struct reply want = {opening, 0};
+    if (opening == 0) want = book_joining(b, u, v);
+    compare("pmap_joining", u, v, map, length, want, pmap_joining(map, length, u, v, &cells[1]), cells);
+}
+
+static void compare_open(const uint8_t *map, size_t length, uint8_t opening, const struct book *b)
+{
+    uint16_t cells[5] = {FENCE, OLD, FENCE, OLD, FENCE};
+    struct reply m = {opening, 0}, n = {opening, 0};
+    uint8_t status = pmap_open(map, length, &cells[1], &cells[3]);
+    if (opening == 0) {
+        m.value = b->drawing->m;
+        n.value = b->n;
+    }
+    compare("pmap_open, m", 0, 0, map, length, m, status, &cells[0]);
+    compare("pmap_open, n", 0, 0, map, length, n, status, &cells[2]);
+}
+
+/* ---- all answers of a card ---- */
+
+static const size_t odd_numbers[] = {0, 65535, 65536, 65537, 65538, 4294967296u, 4294967297u, (size_t)1 << 63, SIZE_MAX};
+enum { ODD_NUMBERS = sizeof odd_numbers / sizeof *odd_numbers };
+
+/* Every call with the number k. */
+static void compare_number(const uint8_t *map, size_t length, uint8_t opening, const struct book *b, size_t k)
+{
+    const struct call *call;
+    for EACH(of_place, call) compare_call(call, map, length, opening, b, k);
+    for EACH(of_point, call) compare_call(call, map, length, opening, b, k);
+    for EACH(of_area, call) compare_call(call, map, length, opening, b, k);
+    compare_joining(map, length, opening, b, k, k);
+    compare_joining(map, length, opening, b, k, 1);
+    compare_joining(map, length, opening, b, 1, k);
+}
+
+static void compare_odd(const uint8_t *map, size_t length, const struct book *b)
+{
+    size_t i, m = b->drawing->m, near[] = {1, 2 * m, 2 * m + 1, b->n, b->n + 1, b->areas, b->areas + 1, 65536 + 2 * m};
+    for (i = 0; i < ODD_NUMBERS; i++) compare_number(map, length, 0, b, odd_numbers[i]);
+    for (i = 0; i < sizeof near / sizeof *near; i++) compare_number(map, length, 0, b, near[i]);
+}
+
+/* All places, points, areas and pairs of points, and the odd numbers. */
+static void compare_all(const uint8_t *map, size_t length, const struct book *b)
+{
+    const struct call *call;
+    size_t k, v;
+    compare_open(map, length, 0, b);
+    compare_odd(map, length, b);
+    for (k = 1; k <= 2 * b->drawing->m; k++)
+        for EACH(of_place, call) compare_call(call, map, length, 0, b, k);
+    for (k = 1; k <= b->n; k++) {
+        for EACH(of_point, call) compare_call(call, map, length, 0, b, k);
+        for (v = 1; v <= b->n; v++) compare_joining(map, length, 0, b, k, v);
+    }
+    for (k = 1; k <= b->areas; k++)
+        for EACH(of_area, call) compare_call(call, map, length, 0, b, k);
+}
+
+/* `count` places, points, areas and pairs of points, by chance, and the odd numbers. */
+static void compare_some(const uint8_t *map, size_t length, const struct book *b, size_t count)
+{
+    const struct call *call;
+    compare_open(map, length, 0, b);
+    compare_odd(map, length, b);
+    while (count-- > 0) {
+        size_t place = 1 + random_below(2 * b->drawing->m), point = 1 + random_below(b->n), area = 1 + random_below(b->areas);
+        for EACH(of_place, call) compare_call(call, map, length, 0, b, place);
+        for EACH(of_point, call) compare_call(call, map, length, 0, b, point);
+        for EACH(of_area, call) compare_call(call, map, length, 0, b, area);
+        compare_joining(map, length, 0, b, point, 1 + random_below(b->n));
+        compare_joining(map, length, 0, b, point, book_point(b, book_cross(b, place).value).value);
+    }
+}
+
+void compare_refused(const uint8_t *map, size_t length, uint8_t status)
+{
+    compare_open(map, length, status, NULL);
+    compare_number(map, length, status, NULL, 0);
+    compare_number(map, length, status, NULL, 1);
+    compare_number(map, length, status, NULL, SIZE_MAX);
+}
+
+static struct drawing drawing;
+static struct book book;
+
+/* The reference's own claim: the drawing of a card has a tour, and packs to the card. */
+static void compare_packing(const uint8_t *bytes, size_t length, const struct book *b)
+{
+    uint8_t again[LONGEST];
+    compared++;
+    if (pack(b, again) != length || memcmp(again, bytes, length) != 0) differs("reference", bytes, length, "packs to other bytes");
+}
+
+void compare_bytes(const uint8_t *bytes, size_t length)
+{
+    uint8_t *map = lend(bytes, length, random_below(2) == 0), status = unpack(bytes, length, &drawing);
+    if (status != 0) {
+        compare_refused(map, length, status);
+    } else {
+        expect(make_book(&drawing, &book), "reference", "the tour of a card's drawing does not meet every end");
+        compare_packing(bytes, length, &book);
+        compare_all(map, length, &book);
+    }
+    take_back(map, bytes, length);
+}
+
+void compare_drawing(const struct drawing *d, size_t some)
+{
+    uint8_t bytes[LONGEST], *map;
+    size_t length;
+    expect(make_book(d, &book), "reference", "the tour of a drawing does not meet every end");
+    length = pack(&book, bytes);
+    map = lend(bytes, length, 0);
+    if (some == 0) compare_all(map, length, &book);
+    else compare_some(map, length, &book, some);
+    take_back(map, bytes, length);
+}
+
+void compare_refused_open(const uint8_t *bytes, size_t length, uint8_t status)
+{
+    uint8_t *map = lend(bytes, length, 0);
+    compare_open(map, length, status, NULL);
+    take_back(map, bytes, length);
+}
+
+void compare_value(const char *name, library_call *call, const uint8_t *map, size_t length, size_t number, uint8_t status, size_t value)
+{
+    uint16_t cells[3] = {FENCE, OLD, FENCE};
+    struct reply want = {status, value};
+    compare(name, number, 0, map, length, want, call(map, length, number, &cells[1]), cells);
+}
+
+void compare_numbers(const uint8_t *bytes, size_t length)
+{
+    const struct call *call;
+    size_t k;
+    expect(unpack(bytes, length, &drawing) == 0 && make_book(&drawing, &book), "reference", "the card does not open");
+    for (k = 1; k <= 2 * drawing.m; k++)
+        for EACH(of_place, call) compare_call(call, bytes, length, 0, &book, k);
+    for (k = 1; k <= book.n; k++)
+        for EACH(of_point, call) compare_call(call, bytes, length, 0, &book, k);
+    for (k = 1; k <= book.areas; k++)
+        for EACH(of_area, call) compare_call(call, bytes, length, 0, &book, k);
+}
