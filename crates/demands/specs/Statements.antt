@@ -54,7 +54,7 @@ turanBytes D =
     ++ (bytesOf (gather (markedAt D) (λ p. closingBit (isSecond D p)) (ends D))
     ++ bytesOf (gather (λ p. not (markedAt D p)) (λ p. closingBit (isSecond D p)) (ends D)))))
 
--- 01, demand 2: "Packing writes exactly Turán's three strings for the drawing's tour, and reports a crossing exactly when two
+-- Demand 2: "Packing writes exactly Turán's three strings for the drawing's tour, and reports a crossing exactly when two
 -- unmarked borders alternate in it, the earlier checks being passed."
 pub record Exact (D : Drawing) (work out : ℕ) : Type 0 where
   pub bytes : turanBytes D ≡ packedBytes D
@@ -64,7 +64,7 @@ pub record Exact (D : Drawing) (work out : ℕ) : Type 0 where
   pub long : PassesSeven D → length (turanBytes D) ≡ mapLength (record { m = borders D; n = cells D Cell.point })
   pub fits : PassesSeven D → length (turanBytes D) ≤ longest
 
--- 01, demand 2: "Every byte string accepted on opening unpacks to a drawing that packs to the same bytes."
+-- Demand 2: "Every byte string accepted on opening unpacks to a drawing that packs to the same bytes."
 pub record RoundTrip (s : List ℕ) : Type 0 where
   pub unpacked : Drawing
   pub unpacks : (turnings marks : ℕ) → 2 * sizeIn s .m ≤ turnings → sizeIn s .m ≤ marks → unpackOf s turnings marks ≡ answer unpacked
@@ -77,11 +77,11 @@ pub record RoundTrips : Type 0 where
   pub from-drawing : (D : Drawing) → PassesSeven D → (turnings marks : ℕ) → ends D ≤ turnings → borders D ≤ marks
       → unpackOf (packedBytes D) turnings marks ≡ answer (renumbered D)
 
--- 01, demand 3: "every first number and every list of calls"
+-- Demand 3: "every first number and every list of calls"
 pub record Sessions (D : Drawing) (s : List ℕ) : Type 0 where
   pub same : (i : ℕ) (calls : List Call) → mapSession s i calls ≡ bookSession D i calls
 
--- 01, demand 3: "for every point and area number, first places, degrees, sides, neighbour counts and joining borders are the
+-- Demand 3: "for every point and area number, first places, degrees, sides, neighbour counts and joining borders are the
 -- book's too"
 pub record Numbers (D : Drawing) (s : List ℕ) : Type 0 where
   pub first : (c : Cell) (k : ℕ) → firstOf s c k ≡ bookFirst D c k
