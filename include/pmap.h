@@ -1,5 +1,6 @@
 /*
- * pmap.h - packed maps of rating areas: opening, moves, counts and the joining border, on the bytes of a map.
+ * pmap.h - packed maps of rating areas: packing a drawing and unpacking a map; opening, moves, counts and the joining
+ * border on the bytes of a map.
  *
  * Link with libpmap.a (`rt staticlib pmap`). Every function is proved to meet what stands here, for all bytes and all
  * numbers, as long as the caller keeps to "Memory" below. Nothing is kept between calls, nothing is allocated, no
@@ -9,14 +10,22 @@
  * places are 1 to 2m. Points are 1 to n, areas are 1 to m-n+2. The three kinds of numbers are not to be mixed up: place
  * 3 has nothing to do with point 3 or area 3. An answer of place 0 means that there is none, where a call says so.
  *
- * Status. Every function returns 0 (PMAP_OK) and writes its answer, or it returns the number of the first check that
- * fails, in the order of the list below, and then it has written nothing: every out cell holds what it held before.
- * Every call runs the checks 8 to 12 on the whole map first. It costs time in proportion to map_len.
+ * Drawings. Border e of a drawing, 0 to m-1, has the ends 2e and 2e+1. Entry h of the turning list is the end that
+ * follows end h counterclockwise about its point; there are 2m entries. The marks have one byte for each border: 1 for a
+ * border of the spanning tree, else 0. The tour begins at the start, an end (0 if m is 0). Only pmap_pack and
+ * pmap_unpack have to do with drawings.
  *
- * Memory. `map` points to map_len readable bytes, with no alignment asked for; it may be NULL if map_len is 0. The
- * functions only read them. Out pointers are not NULL and are aligned as uint16_t. All memory stays the caller's: nothing
- * is kept, freed or handed over. The bytes of the map and the out cells of one call must not overlap one another, and no
- * other thread may write any of them during the call.
+ * Status. Every function returns 0 (PMAP_OK) and writes its answer, or it returns the number of the first check that
+ * fails, in the order of the list below, and then it has written nothing: every out cell and every out list holds what
+ * it held before. pmap_pack returns two border numbers beside the status, and says what it leaves in its working list.
+ * Every call on a map runs the checks 8 to 12 on the whole map first. It costs time in proportion to map_len.
+ *
+ * Memory. `map` points to map_len readable bytes, with no alignment asked for; it may be NULL if map_len is 0. So it is
+ * with every list: turning_len, marks_len, work_len and out_len count entries, the list may be NULL if it has none, and
+ * lists of uint16_t are aligned as such. The functions only read what is const. Out cells are not NULL and are aligned as
+ * uint16_t. All memory stays the caller's: nothing is kept, freed or handed over. The lists and the cells that are lent
+ * to one call must not overlap one another, and no other thread may write any of them during the call, or read those
+ * that are not const.
  */
 #ifndef PMAP_H
 #define PMAP_H
@@ -30,6 +39,13 @@ extern "C" {
 
 enum {
     PMAP_OK = 0,          /* success: the answer was written */
+    PMAP_LISTS = 1,       /* turning_len is odd or over 4,096, or marks_len is not half of it */
+    PMAP_ROOM = 2,        /* work_len is under 6m, or out_len under 1,029 */
+    PMAP_RANGE = 3,       /* an entry or the start is not below 2m (m = 0: the start is not 0), or a mark is over 1 */
+    PMAP_REPEATED = 4,    /* two entries of the turning list are equal */
+    PMAP_APART = 5,       /* the marked borders don't join all points */
+    PMAP_MANY_MARKS = 6,  /* they do, and there are more of them than n-1 */
+    PMAP_CROSSING = 7,    /* two unmarked borders alternate in the tour: PMAP_SMALLER and PMAP_LARGER name them */
     PMAP_HEADER = 8,      /* under 4 bytes, m over 2,048, or n not 1 to m+1 */
     PMAP_LENGTH = 9,      /* map_len is not the length that the header gives */
     PMAP_UNUSED_BIT = 10, /* a bit that belongs to no string is 1 */
@@ -37,11 +53,44 @@ enum {
     PMAP_BRACKETS = 12,   /* the string B or B* is not balanced */
     PMAP_NO_PLACE = 13,   /* place is not 1 to 2m */
     PMAP_NO_POINT = 14,   /* point is not 1 to n */
-    PMAP_NO_AREA = 15     /* area is not 1 to m-n+2 */
+    PMAP_NO_AREA = 15,    /* area is not 1 to m-n+2 */
+    PMAP_SHORT_LISTS = 16 /* turning_len is under 2m, or marks_len under m */
 };
 
 /* The length of the longest map, in bytes. A buffer of PMAP_LONGEST + 1 tells a card that is too long from one that isn't. */
 #define PMAP_LONGEST 1029
+
+/* The greatest number of borders: a turning list has at most twice as many entries. */
+#define PMAP_MOST_BORDERS 2048
+
+/* What pmap_pack returns, taken apart: the status, and with PMAP_CROSSING the two borders, the smaller first. */
+#define PMAP_STATUS(packed) ((uint8_t)((packed) & 0xff))
+#define PMAP_SMALLER(packed) ((uint16_t)((packed) >> 8 & 0xfff))
+#define PMAP_LARGER(packed) ((uint16_t)((packed) >> 20 & 0xfff))
+
+/*
+ * Packs a drawing: writes the bytes of its map to the beginning of `out`, and their number, at most 1,029, to *length.
+ * Nothing after them is touched. m is marks_len, and turning_len is to be 2m. It costs time in proportion to m.
+ *
+ * `work` is a working list of at least 6m entries, whatever they hold. With 1, 2 and 3 it is left as it was. After any
+ * other outcome, success too, its first 6m entries are 0 and the rest is as it was. `out` has at least PMAP_LONGEST
+ * bytes, however small the drawing. With any refusal `out` and *length are left as they were.
+ *
+ * Status: 0, 1, 2, 3, 4, 5, 6, 7, in the low 8 bits of what is returned. With 7 it carries two unmarked borders that
+ * alternate in the tour, some such pair if there are several; PMAP_STATUS, PMAP_SMALLER and PMAP_LARGER take it apart.
+ */
+/* low 8 bits: 0 or the refusal; with 7, bits 8 to 19 hold the smaller border and bits 20 to 31 the larger; else those bits are 0 */
+uint32_t pmap_pack(const uint16_t *turning, size_t turning_len, const uint8_t *marks, size_t marks_len, size_t start,
+                   uint16_t *work, size_t work_len, uint8_t *out, size_t out_len, uint16_t *length);
+
+/*
+ * Unpacks a map: writes its drawing to the first 2m entries of `turning` and the first m of `marks`, and the number of
+ * borders to *m. Nothing after them is touched. Borders are numbered by their first places, the first place of a border
+ * is its even end, and the start is end 0: packing that drawing from there gives the same map again. With any refusal
+ * both lists and *m are left as they were. It costs time in proportion to the square of map_len.
+ * Status: 0, 8, 9, 10, 11, 12, 16.
+ */
+uint8_t pmap_unpack(const uint8_t *map, size_t map_len, uint16_t *turning, size_t turning_len, uint8_t *marks, size_t marks_len, uint16_t *m);
 
 /*
  * Opens a map: checks its bytes, and writes the number of borders to *m and the number of points to *n.

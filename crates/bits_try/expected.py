@@ -1,73 +1,73 @@
 #!/usr/bin/env python3
-"""What the program must write, worked out by itself: python3 expected.py > stdout.
+"""Makes the string, and works out by itself what the program must write: python3 expected.py writes stdin and stdout.
 
 A string is a list of bits. Brackets are matched with a stack of open positions; a closing that meets an
 empty stack takes nothing."""
+import random
 
 ROOM = 512 * 8
 
 
-def string(kind, n):
-    if kind == 0:
-        return [i % 2 for i in range(n)]
-    if kind == 1:
-        return [int(i >= n // 2) for i in range(n)]
-    return [(i // 3 + i // 5 + i // 7) % 2 for i in range(n)]
+def nested(pairs):
+    """Brackets that nest at random."""
+    bits, depth = [], 0
+    while len(bits) < 2 * pairs:
+        left = 2 * pairs - len(bits)
+        bit = int(depth == left or (depth > 0 and random.random() < 0.45))
+        bits.append(bit)
+        depth += 1 - 2 * bit
+    return bits
+
+
+def string():
+    """Shallow, deep and mixed brackets, then bits in no order, then zeros."""
+    random.seed(1)
+    bits = [0, 1] * 32 + [0] * 200 + [1] * 200 + nested(200) + [0] * 20 + nested(400)
+    bits += [random.randrange(2) for _ in range(1900)]
+    return bits + [0] * (ROOM - len(bits))
 
 
 def stacks(bits):
-    """The open positions just before each position, and the closing of each opening."""
-    before, closing, opened = [], {}, []
-    for i, b in enumerate(bits):
-        before.append(list(opened[-1:]))
-        if b == 0:
+    """The innermost open position just before each position, and the closing of each opening."""
+    inner, closing, opened = [], {}, []
+    for i, bit in enumerate(bits):
+        inner.append(opened[-1] + 1 if opened else 0)
+        if bit == 0:
             opened.append(i)
         elif opened:
             closing[opened.pop()] = i
-    before.append(list(opened[-1:]))
-    return before, closing, opened
+    return inner, closing
 
 
 def balanced(bits):
     depth = 0
-    for b in bits:
-        depth += 1 - 2 * b
+    for bit in bits:
+        depth += 1 - 2 * bit
         if depth < 0:
             return 0
     return int(depth == 0)
 
 
-def checksum(bits, n):
-    bits = bits + [0] * (ROOM - n)
-    before, closing, _ = stacks(bits + [0])
-    places = [[i for i in range(n) if bits[i] == v] for v in (0, 1)]
-    h = 0
-    for i in range(0, n + 1, 1 + n // 64):
-        b = bits[i] if i < ROOM else 0
-        inner = before[i][0] + 1 if before[i] else 0
-        if b == 0:
-            other = closing.get(i, n)
-            other = other if other < n else n
-        else:
-            other = inner - 1 if inner else 0
-        answers = [b, bits[:i].count(0), bits[:i].count(1)]
-        answers += [p[i] if i < len(p) else n for p in places]
-        answers += [other, inner]
-        for a in answers:
-            h = (h * 31 + a) % 65521
-    return h
+def row(bits, inner, closing, n):
+    v, i = n % 3, n // 2
+    places = [p for p in range(n) if bits[p] == v]
+    if bits[i] == 0:
+        partner = min(closing.get(i, n), n)
+    else:
+        partner = max(inner[i] - 1, 0)
+    position = places[n // 4] if n // 4 < len(places) else n
+    zero = int(not any(bits[n:]))
+    return [len(places), position, zero, bits[i], partner, inner[i], balanced(bits[:n]), int(n > 8)]
 
 
-def total(n):
-    h = 0
-    for entry in [0] * min(n, 16) + [7] * (16 - min(n, 16)):
-        h = (h * 31 + entry) % 65521
-    return h
-
-
-for kind in (0, 1, 2):
-    for n in (0, 1, 7, 8, 9, 63, 64, 65, 4096):
-        bits = string(kind, n)
-        still = int(n + 3 >= ROOM)
-        row = [kind, n, checksum(bits, n), balanced(bits), 1, still, total(n)]
-        print("".join("%d " % x for x in row))
+bits = string()
+with open("stdin", "wb") as out:
+    out.write(bytes(sum(bits[8 * k + r] << r for r in range(8)) for k in range(512)))
+bits[2000], bits[1000] = 1, 0
+bits += [0] * 104
+inner, closing = stacks(bits)
+n = 0
+with open("stdout", "w") as out:
+    while n <= 4200:
+        out.write("".join("%d " % x for x in row(bits, inner, closing, n)) + "\n")
+        n += 1 + n // 32

@@ -1,5 +1,5 @@
 /*
- * Compares every call of the library with the book of the drawing (reference.c, book.c), on many cards, good and bad.
+ * Compares every call on map bytes with the book of the drawing (reference.c, book.c), on many cards, good and bad.
  *
  *     check              everything
  *     check small        the parts on small cards, and fewer of them
@@ -12,19 +12,15 @@
 
 #include "cards.h"
 #include "compare.h"
+#include "damage.h"
+#include "examples.h"
+#include "lending.h"
 #include "pmap.h"
 #include "reference.h"
+#include "tally.h"
 
 static int small;
 static struct drawing drawing, renumbered;
-
-static const uint8_t triangle[] = {0x03, 0x00, 0x03, 0x00, 0x1B, 0x0C, 0x02};
-static const uint8_t figure_1[] = {0x0E, 0x00, 0x08, 0x00, 0xB6, 0x4E, 0x8B, 0x02, 0x34, 0x33, 0x92, 0x2B};
-static const uint8_t empty[] = {0x00, 0x00, 0x01, 0x00};
-static const uint8_t stub[] = {0x01, 0x00, 0x02, 0x00, 0x03, 0x02};
-static const uint8_t loop[] = {0x01, 0x00, 0x01, 0x00, 0x00, 0x02};
-
-#define CARD(c) (c), sizeof(c)
 
 /* Document 01's own numbers, without the reference. */
 static void worked_examples(void)
@@ -162,60 +158,26 @@ static void largest(void)
     part_ends("a card of 2,048 borders, every place, point and area");
 }
 
-static void damage_card(const uint8_t *bytes, size_t length)
-{
-    uint8_t copy[LONGEST + 1];
-    size_t i;
-    for (i = 0; i < length; i++) compare_bytes(bytes, i);
-    memcpy(copy, bytes, length);
-    for (i = 0; i < 256; i += 51) {
-        copy[length] = (uint8_t)i;
-        compare_bytes(copy, length + 1);
-    }
-    for (i = 0; i < 8 * length; i++) {
-        copy[i / 8] ^= (uint8_t)(1u << i % 8);
-        compare_bytes(copy, length);
-        copy[i / 8] ^= (uint8_t)(1u << i % 8);
-    }
-}
-
 static void damaged(void)
 {
     struct card card;
-    damage_card(CARD(triangle));
-    damage_card(CARD(figure_1));
-    damage_card(CARD(empty));
-    damage_card(CARD(stub));
-    damage_card(CARD(loop));
+    each_damage(CARD(triangle), compare_bytes);
+    each_damage(CARD(figure_1), compare_bytes);
+    each_damage(CARD(empty), compare_bytes);
+    each_damage(CARD(stub), compare_bytes);
+    each_damage(CARD(loop), compare_bytes);
     random_card(&card, 40, 18, 4);
-    damage_card(card.bytes, card.length);
+    each_damage(card.bytes, card.length, compare_bytes);
     if (!small) {
         random_card(&card, 300, 170, 5);
-        damage_card(card.bytes, card.length);
+        each_damage(card.bytes, card.length, compare_bytes);
     }
     part_ends("every prefix and every single-bit flip of good cards");
 }
 
-/* Headers about every bound, with lengths about the one that they give. */
 static void headers(void)
 {
-    static const size_t m_values[] = {0, 1, 2, 4, 5, 255, 256, 2047, 2048, 2049, 4096, 32768, 65535};
-    static uint8_t bytes[MOST_BYTES];
-    size_t i, j, add;
-    for (i = 0; i < sizeof m_values / sizeof *m_values; i++) {
-        size_t m = m_values[i], n_values[] = {0, 1, 2, m / 2, m, m + 1, m + 2, 2 * m, 65535};
-        for (j = 0; j < sizeof n_values / sizeof *n_values; j++) {
-            size_t n = n_values[j] % 65536, length = 4 + (2 * m + 7) / 8;
-            if (n >= 1 && n <= m + 1) length += (2 * n - 2 + 7) / 8 + (2 * (m + 1 - n) + 7) / 8;
-            memset(bytes, 0, sizeof bytes);
-            bytes[0] = (uint8_t)(m % 256);
-            bytes[1] = (uint8_t)(m / 256);
-            bytes[2] = (uint8_t)(n % 256);
-            bytes[3] = (uint8_t)(n / 256);
-            for (add = 0; add < 3; add++)
-                if (length + add - 1 <= sizeof bytes) compare_bytes(bytes, length + add - 1);
-        }
-    }
+    each_header(compare_bytes);
     part_ends("headers about every bound");
 }
 
@@ -252,11 +214,7 @@ static void no_bytes(void)
 static void every_status(void)
 {
     static const uint8_t statuses[] = {0, 8, 9, 10, 11, 12, 13, 14, 15};
-    size_t i;
-    for (i = 0; i < sizeof statuses; i++) {
-        printf("  status %u: %lu times\n", statuses[i], times_seen(statuses[i]));
-        expect(times_seen(statuses[i]) >= 100, "status", "was seen fewer than 100 times");
-    }
+    expect_seen(statuses, sizeof statuses);
     part_ends("every status was seen");
 }
 
@@ -264,7 +222,7 @@ int main(int argc, char **argv)
 {
     small = argc > 1 && strcmp(argv[1], "small") == 0;
     setvbuf(stdout, NULL, _IOLBF, 0);
-    prepare(argc > 2 && strcmp(argv[2], "heap") == 0);
+    prepare_lending(argc > 2 && strcmp(argv[2], "heap") == 0);
     worked_examples();
     no_bytes();
     headers();

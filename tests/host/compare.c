@@ -1,112 +1,34 @@
 /* Comparing the library with the book of a drawing. */
 #include "compare.h"
 
-#include <signal.h>
 #include <stdio.h>
-#include <stdlib.h>
 #include <string.h>
-#include <sys/mman.h>
-#include <unistd.h>
 
 #include "cards.h"
+#include "lending.h"
 #include "pmap.h"
+#include "tally.h"
 
-static int in_heap;
+/* ---- lending cards ---- */
 
-/* ---- counting ---- */
-
-static unsigned long compared, differing, parts_passed, parts_failed;
-static unsigned long seen[256]; /* how often each status was rightly given */
-
-static void differs(const char *what, const uint8_t *map, size_t length, const char *detail)
-{
-    size_t i;
-    if (differing++ >= 5) return;
-    printf("  differs: %s: %s; the card has %zu bytes:", what, detail, length);
-    for (i = 0; i < length && i < 40; i++) printf(" %02X", map[i]);
-    printf("%s\n", length > 40 ? " .." : "");
-}
-
-void part_ends(const char *name)
-{
-    int good = compared > 0 && differing == 0;
-    printf("check: %s: %lu compared, %lu differ\n", name, compared, differing);
-    if (good) parts_passed++;
-    else parts_failed++;
-    compared = differing = 0;
-}
-
-void expect(int holds, const char *what, const char *otherwise)
-{
-    compared++;
-    if (!holds) differs(what, NULL, 0, otherwise);
-}
-
-unsigned long times_seen(uint8_t status)
-{
-    return seen[status];
-}
-
-unsigned long finish(void)
-{
-    printf("%lu passed, %lu failed\n", parts_passed, parts_failed);
-    return parts_failed;
-}
-
-/* ---- lending cards: the byte after the last one (or before the first one) can't be read ---- */
-
-enum { PAGE = 4096, ROOM = MOST_BYTES };
-
-static uint8_t *fenced; /* ROOM bytes between two pages without access */
-
-static void outside(int signal_number)
-{
-    static const char words[] = "  differs: the library reads or writes outside the card\n0 passed, 1 failed\n";
-    (void)signal_number;
-    if (write(STDOUT_FILENO, words, sizeof words - 1) < 0) _exit(2);
-    _exit(1);
-}
-
-void prepare(int heap)
-{
-    uint8_t *all = mmap(NULL, ROOM + 2 * PAGE, PROT_READ | PROT_WRITE, MAP_PRIVATE | MAP_ANONYMOUS, -1, 0);
-    if (all == MAP_FAILED || mprotect(all, PAGE, PROT_NONE) != 0 || mprotect(all + PAGE + ROOM, PAGE, PROT_NONE) != 0) {
-        printf("check: no memory\n0 passed, 1 failed\n");
-        exit(1);
-    }
-    in_heap = heap;
-    fenced = all + PAGE;
-    signal(SIGSEGV, outside);
-    signal(SIGBUS, outside);
-}
-
-static uint8_t *lend(const uint8_t *bytes, size_t length, int at_the_front)
-{
-    uint8_t *map = fenced + (at_the_front ? 0 : ROOM - length);
-    if (in_heap) map = malloc(length);
-    if (length > 0) memcpy(map, bytes, length);
-    return map;
-}
+static struct loan card;
 
 /* The library may not change the card. */
-static void take_back(uint8_t *map, const uint8_t *bytes, size_t length)
+static void give_back(const uint8_t *bytes, size_t length)
 {
-    compared++;
-    if (length > 0 && memcmp(map, bytes, length) != 0) differs("card", bytes, length, "its bytes were changed");
-    if (in_heap) free(map);
+    compared_one();
+    if (!take_back(&card, bytes)) differs("card", bytes, length, "its bytes or what stands beside them were changed");
 }
 
 /* ---- one answer ---- */
-
-enum { OLD = 0xBEEF, FENCE = 0xF00D }; /* no answer is so large */
 
 static void compare(const char *call, size_t u, size_t v, const uint8_t *map, size_t length, struct reply want, uint8_t status,
                     const uint16_t *cells)
 {
     size_t want_cell = want.status == 0 ? want.value : OLD;
-    compared++;
+    compared_one();
     if (status == want.status && cells[0] == FENCE && cells[1] == want_cell && cells[2] == FENCE) {
-        seen[status]++;
+        seen_once(status);
     } else {
         char detail[200];
         snprintf(detail, sizeof detail, "of %zu, %zu: status %u, wanted %u; cell %u, wanted %zu%s", u, v, status, want.status,
@@ -114,24 +36,6 @@ static void compare(const char *call, size_t u, size_t v, const uint8_t *map, si
         differs(call, map, length, detail);
     }
 }
-
-struct call {
-    const char *name;
-    library_call *library;
-    struct reply (*book)(const struct book *, size_t);
-};
-
-static const struct call of_place[] = {
-    {"pmap_cross", pmap_cross, book_cross}, {"pmap_turn", pmap_turn, book_turn}, {"pmap_turn_back", pmap_turn_back, book_turn_back},
-    {"pmap_along", pmap_along, book_along}, {"pmap_point", pmap_point, book_point}, {"pmap_area", pmap_area, book_area},
-};
-static const struct call of_point[] = {
-    {"pmap_point_first", pmap_point_first, book_point_first}, {"pmap_degree", pmap_degree, book_degree},
-};
-static const struct call of_area[] = {
-    {"pmap_area_first", pmap_area_first, book_area_first}, {"pmap_sides", pmap_sides, book_sides},
-    {"pmap_neighbours", pmap_neighbours, book_neighbours},
-};
 
 #define EACH(table, call) (call = table; call < table + sizeof table / sizeof *table; call++)
 
@@ -237,13 +141,13 @@ static struct book book;
 static void compare_packing(const uint8_t *bytes, size_t length, const struct book *b)
 {
     uint8_t again[LONGEST];
-    compared++;
+    compared_one();
     if (pack(b, again) != length || memcmp(again, bytes, length) != 0) differs("reference", bytes, length, "packs to other bytes");
 }
 
 void compare_bytes(const uint8_t *bytes, size_t length)
 {
-    uint8_t *map = lend(bytes, length, random_below(2) == 0), status = unpack(bytes, length, &drawing);
+    uint8_t *map = lend(&card, bytes, length), status = unpack(bytes, length, &drawing);
     if (status != 0) {
         compare_refused(map, length, status);
     } else {
@@ -251,7 +155,7 @@ void compare_bytes(const uint8_t *bytes, size_t length)
         compare_packing(bytes, length, &book);
         compare_all(map, length, &book);
     }
-    take_back(map, bytes, length);
+    give_back(bytes, length);
 }
 
 void compare_drawing(const struct drawing *d, size_t some)
@@ -260,17 +164,17 @@ void compare_drawing(const struct drawing *d, size_t some)
     size_t length;
     expect(make_book(d, &book), "reference", "the tour of a drawing does not meet every end");
     length = pack(&book, bytes);
-    map = lend(bytes, length, 0);
+    map = lend(&card, bytes, length);
     if (some == 0) compare_all(map, length, &book);
     else compare_some(map, length, &book, some);
-    take_back(map, bytes, length);
+    give_back(bytes, length);
 }
 
 void compare_refused_open(const uint8_t *bytes, size_t length, uint8_t status)
 {
-    uint8_t *map = lend(bytes, length, 0);
+    uint8_t *map = lend(&card, bytes, length);
     compare_open(map, length, status, NULL);
-    take_back(map, bytes, length);
+    give_back(bytes, length);
 }
 
 void compare_value(const char *name, library_call *call, const uint8_t *map, size_t length, size_t number, uint8_t status, size_t value)

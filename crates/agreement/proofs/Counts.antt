@@ -1,7 +1,6 @@
 -- How many points and areas, and how many letters of each family.
 --
--- count-borders    == of the 2m ends, twice as many as of the m borders have a test of the border
--- places-count     == so have the positions
+-- places-count     == of the 2m positions, twice as many as of the m borders have a test of the border
 -- first-places     == each border has one first place
 -- round-count, square-count == the borders of the round family are the marked ones, those of the square family the others
 -- openings-count, openings-round, openings-square == a family has as many openings as borders
@@ -12,12 +11,12 @@
 use mathlib.Core.Path.{_≡_, refl, sym, ap, _∙_}
 use mathlib.Core.Logic.{_≢_, inl, inr}
 use mathlib.Core.Bool.{Bool, true, false, not, _&&_}
-use Prim.Native.Nat.{ℕ, zero, suc, _+_, _-_, _*_, _/_, _<_}
+use Prim.Native.Nat.{ℕ, _+_, _-_, _*_, _<_}
 use native.Mathlib.Omega.{arith}
 use lib.Dec.{eqb}
 use borrow.Author.Tests.{eq-eqb, ne-eqb, lt-ltb, le-ltb}
 use Rattle.count.specs.Below.{pick, count}
-use Rattle.count.proofs.Logic.{same-or-not, lt-or-ge, true-or-false, pick-yes, pick-no}
+use Rattle.count.proofs.Logic.{same-or-not, lt-or-ge, pick-yes, pick-no}
 use Rattle.count.proofs.Below.{count-zero, count-same, count-split, count-not}
 use Rattle.orbits.specs.Cycles.{Permutes, cycles}
 use Rattle.orbits.proofs.Iter.{permutes-involution}
@@ -27,6 +26,7 @@ use Rattle.words.specs.Word.{Family, round, square, sameFamily, seen}
 use Rattle.words.proofs.Numbers.{openings}
 use Rattle.drawing.specs.Drawing.{Drawing, Cell, borders, ends, border, isMarked, around, cells, endAt, isSecond}
 use Rattle.drawing.specs.Checks.{markCount}
+use Rattle.drawing.proofs.Ends.{count-borders}
 use Rattle.format.specs.Pack.{wordOf}
 use Rattle.format.specs.Calls.{cellsIn}
 use Rattle.agreement.specs.Toured.{Toured}
@@ -34,16 +34,6 @@ use Rattle.agreement.proofs.Positions.{partner, end-permutes, partner-b
 use Rattle.agreement.proofs.Nesting.{familyOf, inFamily, metIn}
 use Rattle.agreement.proofs.Steps.{cellWord}
 use Rattle.agreement.proofs.Cells.{cycles-agree}
-
-pub count-borders : (S : ℕ → Bool) (m : ℕ) → count (λ h. S (border h)) (2 * m) ≡ 2 * count S m
-unfolding count border
-count-borders S zero = refl
-count-borders S (suc m) =
-    let two : 2 * suc m ≡ suc (suc (2 * m)) = omega arith in
-    let even : 2 * m / 2 ≡ m = omega arith in
-    let odd : suc (2 * m) / 2 ≡ m = omega arith in
-    let rest = count-borders S m in
-    rw (two, even, odd) (elim (true-or-false (S m)) [ inl t ↦ rw t (omega arith) | inr f ↦ rw f rest ])
 
 -- the test of a family, by the mark
 round-marked : (t : Bool) → sameFamily round (familyOf t) ≡ t

@@ -1,9 +1,6 @@
 -- Positions of the tour and the ends at them.
 --
 -- partner D p      == the position of the other end of the border met at position p
--- border-two       == an end of h's border is h or its other end
--- other-end        == the other end of an end is an end
--- end-zero, end-after == the tour begins at the start, and goes on by the tour's step
 -- end-permutes     == the ends at the positions are a permutation
 -- end-other        == the other end of the end at p is the end at p's partner
 -- partner-below, partner-involutive, partner-moves == partners are positions, partners of one another, and two
@@ -15,46 +12,21 @@
 use mathlib.Core.Path.{_≡_, sym, ap, _∙_}
 use mathlib.Core.Logic.{_≢_, _⊎_, inl, inr}
 use mathlib.Core.Bool.{Bool}
-use Prim.Native.Nat.{ℕ, _+_, _%_, _<_}
+use Prim.Native.Nat.{ℕ, _+_, _<_}
 use native.Mathlib.Omega.{arith}
 use lib.Dec.{eqb, ltb}
 use borrow.Author.Tests.{eqb-true, eq-eqb, ltb-true, lt-ltb}
 use Rattle.count.proofs.Logic.{same-or-not, bool-same}
 use Rattle.count.proofs.Below.{any-has, any-from}
 use Rattle.orbits.specs.Cycles.{Permutes}
-use Rattle.orbits.proofs.Iter.{iter-zero, iter-next}
 use Rattle.words.specs.Brackets.{next}
 use Rattle.words.proofs.Step.{next-plain, next-last}
-use Rattle.drawing.specs.Drawing.{Drawing, borders, ends, border, other, isMarked, walk, endAt, positionOf, isSecond}
-use Rattle.drawing.proofs.Ends.{across, other-border, other-other, other-moves, other-below}
+use Rattle.drawing.specs.Drawing.{Drawing, ends, border, other, isMarked, walk, endAt, positionOf, isSecond}
+use Rattle.drawing.proofs.Ends.{other-border, other-other, other-moves, other-end, border-two, end-zero, end-after}
 use Rattle.agreement.specs.Toured.{Toured}
 
 abbrev pub partner : Drawing → ℕ → ℕ
 partner D p = positionOf D (other (endAt D p))
-
-pub border-two : (g h : ℕ) → border g ≡ border h → (g ≡ h) ⊎ (g ≡ other h)
-unfolding border
-border-two g h e =
-    elim (same-or-not g h) [
-      | inl s ↦ inl s
-      | inr d ↦
-          elim (same-or-not (h % 2) 0) [
-            | inl z ↦ inr (omega (arith, across h .even z))
-            | inr o ↦ let z : h % 2 ≡ 1 = omega arith in inr (omega (arith, across h .odd z))
-          ]
-    ]
-
-pub other-end : (D : Drawing) (h : ℕ) → h < ends D → other h < ends D
-unfolding ends
-other-end D h l = other-below (borders D) h l
-
-pub end-zero : (D : Drawing) → endAt D 0 ≡ D .start
-unfolding endAt
-end-zero D = iter-zero (walk D (isMarked D)) (D .start)
-
-pub end-after : (D : Drawing) (p : ℕ) → endAt D (p + 1) ≡ walk D (isMarked D) (endAt D p)
-unfolding endAt
-end-after D p = iter-next (walk D (isMarked D)) p (D .start)
 
 module _ {D : Drawing} (T : Toured D) where
   pub end-permutes : Permutes (ends D) (endAt D)

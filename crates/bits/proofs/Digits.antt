@@ -1,20 +1,20 @@
 -- One binary digit of a number, changed: what withBit gives, digit by digit.
 --
+-- one-shifted      == 1 shifted by r within w places is 2 ^ r
 -- digit-split      == a number is the digits above place r, the digit there, and those below
 -- with-bit-here    == the digit at r is the new one
 -- with-bit-other   == every other digit is as before
 -- with-bit-below   == a number below 2 ^ w stays below it, for r below w
--- with-bit-same    == nothing changes where the digit is the new one already
--- with-bit-on, with-bit-off == one more 2 ^ r, or one less, where it is not
+-- with-bit-off, with-bit-on == the number without its digit at r, and with 2 ^ r there
 -- Assumes nothing.
 use mathlib.Core.Path.{_≡_, sym, ap, _∙_}
 use mathlib.Core.Logic.{inl, inr}
 use mathlib.Core.Bool.{Bool, true, false}
 use Prim.Native.Nat.{ℕ, _+_, _-_, _*_, _/_, _%_, _^_, _<_}
-use native.Mathlib.Nat.{add-assoc, add-mul, mul-assoc, mul-comm, mod-lt}
+use native.Mathlib.Nat.{add-assoc, add-mul, mul-assoc, mul-comm, zero-mul, one-mul, mod-lt}
 use native.Mathlib.Omega.{arith}
 use lib.Arith.{digits-lt}
-use lib.Pow.{pow-pos, pow-add, shr-lt, shr-shr, split, high, low, field, mod-mod-pow}
+use lib.Pow.{pow-pos, pow-add, shl-exact, shr-lt, shr-shr, split, high, low, field, mod-mod-pow}
 use Rattle.count.specs.Below.{pick}
 use Rattle.count.proofs.Logic.{lt-or-ge}
 use Rattle.bits.specs.Writes.{withBit}
@@ -24,6 +24,9 @@ twice r = omega (arith, pow-add 2 r 1)
 
 regroup : (q d m r : ℕ) → q * 2 ^ (r + 1) + d * 2 ^ r + m ≡ (q * 2 + d) * 2 ^ r + m
 regroup q d m r = rw (pow-add 2 r 1, add-mul (q * 2) d (2 ^ r), mul-assoc q 2 (2 ^ r), mul-comm 2 (2 ^ r))
+
+pub one-shifted : (w r : ℕ) → r < w → 1 * 2 ^ r % 2 ^ w ≡ 2 ^ r
+one-shifted w r l = shl-exact 1 r w (omega arith) (omega arith) ∙ one-mul (2 ^ r)
 
 pub digit-split : (x r : ℕ) → x / 2 ^ (r + 1) * 2 ^ (r + 1) + x / 2 ^ r % 2 * 2 ^ r + x % 2 ^ r ≡ x
 digit-split x r =
@@ -69,10 +72,6 @@ module _ (x r : ℕ) (v : Bool) where
       rw (add-assoc (x / 2 ^ (r + 1) * 2 ^ (r + 1)) (pick v 1 0 * 2 ^ r) (x % 2 ^ r), ← m)
       (digits-lt q (digit-small v (x % 2 ^ r) r low-part))
 
-  pub with-bit-same : x / 2 ^ r % 2 ≡ pick v 1 0 → withBit x r v ≡ x
-  unfolding withBit
-  with-bit-same e = rw (← e) (digit-split x r)
-
 above-digit : (n j r : ℕ) → r < j → n / 2 ^ j ≡ n / 2 ^ (r + 1) / 2 ^ (j - (r + 1))
 above-digit n j r l =
     let e : (r + 1) + (j - (r + 1)) ≡ j = omega arith in
@@ -95,12 +94,10 @@ with-bit-other x r v j n =
           rw (above-digit (withBit x r v) j r l, above-digit x j r l, above x r v)
     ]
 
-pub with-bit-on : (x r : ℕ) → x / 2 ^ r % 2 ≡ 0 → withBit x r true ≡ x + 2 ^ r
+pub with-bit-off : (x r : ℕ) → x - x / 2 ^ r % 2 * 2 ^ r ≡ withBit x r false
 unfolding withBit
-with-bit-on x r e = omega (arith, rw e at (digit-split x r))
+with-bit-off x r = omega (arith, digit-split x r, zero-mul (2 ^ r))
 
-pub with-bit-off : (x r : ℕ) → (x / 2 ^ r % 2 ≡ 0 → ⊥) → withBit x r false + 2 ^ r ≡ x
+pub with-bit-on : (x r : ℕ) → x - x / 2 ^ r % 2 * 2 ^ r + 2 ^ r ≡ withBit x r true
 unfolding withBit
-with-bit-off x r n =
-    let e : x / 2 ^ r % 2 ≡ 1 = omega arith in
-    omega (arith, rw e at (digit-split x r))
+with-bit-on x r = omega (arith, digit-split x r, one-mul (2 ^ r))

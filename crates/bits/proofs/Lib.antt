@@ -1,6 +1,6 @@
 -- Bit strings over bytes: the laws.
-pub mod Depth
 pub mod Digits
+pub mod Fields
 pub mod Laws
 pub mod Loops
 pub mod Stores

@@ -5,7 +5,7 @@
 -- set-bit-here     == the bit that was set is the new one
 -- set-bit-other    == every other bit is as before
 -- cleared-first, cleared-rest == the first k entries are 0, the others as before
--- turned-.., kept-.. == what changes one byte, and that it fits
+-- digit-.., turned-.. == what changes one byte, and that it fits
 -- Filled old n i l == l is old with its first i entries 0, on the way to n of them
 -- Assumes nothing.
 use mathlib.Core.Path.{_≡_, refl, sym, ap, _∙_}
@@ -13,12 +13,10 @@ use mathlib.Core.Logic.{_≢_, inl, inr}
 use mathlib.Core.Bool.{Bool, true, false}
 use mathlib.Core.List.{List, _++_}
 use Prim.Native.Nat.{ℕ, _+_, _-_, _*_, _/_, _%_, _^_, _<_, _≤_, min}
-use native.Mathlib.Nat.{one-mul}
 use native.Mathlib.Omega.{arith}
 use borrow.Author.Fill.{fill-none, fill-more}
 use borrow.Author.Needs.{needs}
 use lib.ListN.{length, getD, set, drop, replicate, length-set, length-append, length-replicate, length-drop, getD-replicate, drop-of-length-le, List·getD-append, List·getD-eq-default}
-use lib.Pow.{shl-exact}
 use lib.Seq.{set-out, getD-set-same, getD-set-other, getD-append-add, getD-drop}
 use mir.Syntax.{w8}
 use mir.Val.{Fits}
@@ -26,7 +24,7 @@ use Rattle.count.specs.Below.{pick}
 use Rattle.count.proofs.Logic.{same-or-not, lt-or-ge}
 use Rattle.bits.specs.Strings.{bit}
 use Rattle.bits.specs.Writes.{withBit, setBit, cleared}
-use Rattle.bits.proofs.Digits.{with-bit-here, with-bit-other, with-bit-below, with-bit-same, with-bit-on, with-bit-off}
+use Rattle.bits.proofs.Digits.{one-shifted, digit-split, with-bit-here, with-bit-other, with-bit-below, with-bit-on, with-bit-off}
 
 module _ (s : List ℕ) (i : ℕ) (v : Bool) where
   pub set-bit-length : length (setBit s i v) ≡ length s
@@ -60,30 +58,24 @@ module _ (s : List ℕ) (i : ℕ) (v : Bool) where
         | inr g ↦ ap (λ t. bit t j) (set-bit-past g)
       ]
 
-pub one-shifted : (r : ℕ) → r < 8 → 1 * 2 ^ r % 256 ≡ 2 ^ r
-one-shifted r l = shl-exact 1 r 8 (omega arith) (omega arith) ∙ one-mul (2 ^ r)
+-- the byte x without digit r, and with it
+module _ (x r : ℕ) (v : Bool) (l : r < 8) where
+  pub digit-part : x / 2 ^ r % 2 * (1 * 2 ^ r % 256) ≤ x
+  digit-part = rw (one-shifted 8 r l) (omega (arith, digit-split x r))
 
--- a digit d of x that was read, and the byte with digit r made v
-module _ (x r d : ℕ) (v : Bool) where
-  pub turned-on : r < 8 → d ≡ x / 2 ^ r % 2 → d ≡ 0 → v ≡ true → x + 1 * 2 ^ r % 256 ≡ withBit x r v
-  turned-on l h e t = rw (one-shifted r l, t) (sym (with-bit-on x r (sym h ∙ e)))
+  pub digit-fits : Fits w8 x → Fits w8 (x / 2 ^ r % 2 * (1 * 2 ^ r % 256))
+  digit-fits f = record { fits = omega (arith, digit-part, f .fits) }
 
-  pub turned-on-fits : Fits w8 x → r < 8 → d ≡ x / 2 ^ r % 2 → d ≡ 0 → Fits w8 (x + 1 * 2 ^ r % 256)
-  turned-on-fits f l h e = record { fits = rw (one-shifted r l, ← with-bit-on x r (sym h ∙ e)) (with-bit-below x r true 8 (f .fits) l) }
+  pub turned-off : v ≡ false → x - x / 2 ^ r % 2 * (1 * 2 ^ r % 256) ≡ withBit x r v
+  turned-off e = rw (one-shifted 8 r l, e) (with-bit-off x r)
 
-  pub kept-on : d ≡ x / 2 ^ r % 2 → (d ≡ 0 → ⊥) → v ≡ true → x ≡ withBit x r v
-  kept-on h n t = sym (with-bit-same x r v (rw t (omega arith)))
+  pub turned-on : v ≡ true → x - x / 2 ^ r % 2 * (1 * 2 ^ r % 256) + 1 * 2 ^ r % 256 ≡ withBit x r v
+  turned-on e = rw (one-shifted 8 r l, e) (with-bit-on x r)
 
-  pub kept-off : d ≡ x / 2 ^ r % 2 → d ≡ 0 → v ≡ false → x ≡ withBit x r v
-  kept-off h e t = sym (with-bit-same x r v (rw t (omega arith)))
+  pub turned-fits : Fits w8 x → Fits w8 (x - x / 2 ^ r % 2 * (1 * 2 ^ r % 256) + 1 * 2 ^ r % 256)
+  turned-fits f = record { fits = rw (one-shifted 8 r l, with-bit-on x r) (with-bit-below x r true 8 (f .fits) l) }
 
-  pub turned-off : r < 8 → d ≡ x / 2 ^ r % 2 → (d ≡ 0 → ⊥) → v ≡ false → x - 1 * 2 ^ r % 256 ≡ withBit x r v
-  turned-off l h n t = rw (one-shifted r l, t) (omega (arith, with-bit-off x r (λ e. n (h ∙ e))))
-
-  pub turned-off-fits : r < 8 → d ≡ x / 2 ^ r % 2 → (d ≡ 0 → ⊥) → 1 * 2 ^ r % 256 ≤ x
-  turned-off-fits l h n = rw (one-shifted r l) (omega (arith, with-bit-off x r (λ e. n (h ∙ e))))
-
-pub ruleset with-bit-all = (turned-on, turned-on-fits, kept-on, kept-off, turned-off, turned-off-fits, needs)
+pub ruleset with-bit-all = (digit-part, digit-fits, turned-off, turned-on, turned-fits, needs)
 
 pub stored : (s : List ℕ) (i y : ℕ) (v : Bool) → y ≡ withBit (getD s (i / 8) 0) (i % 8) v → set s (i / 8) y ≡ setBit s i v
 unfolding setBit

@@ -4,6 +4,8 @@
 -- isBit v s i      == whether that bit is v
 -- rank v s i       == how many of the first i bits are v
 -- select v s n j   == the position of the j-th bit (from 0) that is v among the first n; n where there is none
+-- field s p w      == the number whose w binary digits are the bits from p on, the first bit lowest
+-- share v w c      == how many of w bits are v, where c of them are 1
 -- brackets s       == the string read as brackets: 0 opens, 1 closes
 -- bytesFor k       == how many bytes k bits take, from a fresh byte
 -- unusedZero s k   == whether all bits of s from bit k on are 0
@@ -11,7 +13,7 @@
 -- Balance, partner and innermost open bracket of a string are those of `words`, of `brackets s`. Assumes nothing.
 use mathlib.Core.Bool.{Bool, true, false}
 use mathlib.Core.List.{List}
-use Prim.Native.Nat.{ℕ, _+_, _-_, _*_, _/_, _%_, _^_}
+use Prim.Native.Nat.{ℕ, zero, suc, _+_, _-_, _*_, _/_, _%_, _^_}
 use lib.ListN.{getD, length}
 use lib.Dec.{eqb}
 use Rattle.count.specs.Below.{pick, count, all, nth}
@@ -30,6 +32,14 @@ rank v s i = count (isBit v s) i
 unfoldable pub select : ℕ → List ℕ → ℕ → ℕ → ℕ
 unfolding nth bit
 select v s n j = nth (isBit v s) j n
+
+unfoldable pub field : List ℕ → ℕ → ℕ → ℕ
+unfolding bit
+field s p zero = 0
+field s p (suc w) = bit s (p + w) * 2 ^ w + field s p w
+
+unfoldable pub share : ℕ → ℕ → ℕ → ℕ
+share v w c = pick (eqb v 0) (w - c) (pick (eqb v 1) c 0)
 
 unfoldable pub brackets : List ℕ → ℕ → Bracket
 unfolding bit

@@ -1,7 +1,7 @@
 // Writing to lent memory: one bit, a run of zeros.
-use crate::read::digit;
+use crate::read::least;
 ghost use mathlib.Core.Path.{_≡_};
-ghost use Prim.Native.Nat.{_<_, min};
+ghost use Prim.Native.Nat.{_<_};
 ghost use Rattle.bits.specs.Writes.{withBit, setBit, cleared};
 
 // Makes bit i be v. Nothing changes where i is past the end.
@@ -31,21 +31,7 @@ fn with_bit(x: u8, r: usize, v: bool) -> u8
     requires { ⌜ r < 8 ⌝ }
     ensures { λ y. ⌜ y ≡ withBit x r v ⌝ }
 {
-    let now = digit(x, r);
-    if v {
-        if now == 0 {
-            return x + (1 << r);
-        }
-        return x;
-    }
-    if now == 0 {
-        return x;
-    }
-    x - (1 << r)
-}
-
-fn least(a: usize, b: usize) -> usize
-    ensures { λ r. ⌜ r ≡ min a b ⌝ }
-{
-    if a < b { a } else { b }
+    let p = 1 << r;
+    let off = x - (x >> r) % 2 * p;
+    if v { off + p } else { off }
 }

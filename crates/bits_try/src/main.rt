@@ -1,120 +1,51 @@
-// Runs every function of `bits` on strings of 0 to 4,096 bits, shallow, deep and mixed, and writes a
-// line for each: the kind, the length, a checksum of what is read at some 64 positions, whether the
-// string is balanced, whether its unused bits are 0, the same once a bit past them is set, and the
-// sum of a list after its first entries are cleared. stdout holds what expected.py works out.
+// Runs every function of `bits` and `matching` on a string of 512 bytes, taken as strings of 0 to 4,200 bits, and
+// writes a line for each length n: the rank of n % 3 at n and the position of the n / 4th; whether
+// every bit from n on is 0; bit n / 2, its partner and the bracket open before it; whether the n bits
+// are balanced; whether entry 8 of a list of sevens is 0 once the first n are cleared. stdin has the
+// string, and stdout what expected.py works out.
+use libc::STDIN_FILENO;
 use libc::STDOUT_FILENO;
-ghost use mathlib.Core.Path.{_≡_};
-ghost use Prim.Native.Nat.{_≤_, _<_};
-ghost use lib.ListN.{length};
 
 fn main() {
-    lengths(0);
-    lengths(1);
-    lengths(2);
+    let mut s = [0u8; 512];
+    io::read_full(STDIN_FILENO, &mut s);
+    bits::set_bit(&mut s, 2000, true);
+    bits::set_bit(&mut s, 1000, false);
+    lines(&s);
 }
 
-fn lengths(kind: usize) {
-    line(kind, 0);
-    line(kind, 1);
-    line(kind, 7);
-    line(kind, 8);
-    line(kind, 9);
-    line(kind, 63);
-    line(kind, 64);
-    line(kind, 65);
-    line(kind, 4096);
+// Every length to 32, and then by longer steps.
+fn lines(s: &[u8]) {
+    let mut n = 0;
+    while n <= 4200 {
+        counts(s, n, n % 3);
+        brackets(s, n, n / 2);
+        cleared(n);
+        n += 1 + n / 32;
+    }
 }
 
-fn line(kind: usize, n: usize)
-    requires { ⌜ n ≤ 4096 ⌝ }
-{
-    let mut s = space();
-    fill(&mut s, kind, n);
-    show(kind);
-    show(n);
-    show(checksum(&s, n));
-    show(flag(bits::is_balanced(&s, n)));
-    show(flag(bits::unused_zero(&s, n)));
-    bits::set_bit(&mut s, n + 3, true);
-    show(flag(bits::unused_zero(&s, n)));
+fn counts(s: &[u8], n: usize, v: usize) {
+    show(bits::rank(s, v, n));
+    show(bits::select(s, v, n, n / 4));
+    show(bits::unused_zero(s, n) as usize);
+}
+
+fn brackets(s: &[u8], n: usize, i: usize) {
+    show(bits::bit(s, i));
+    show(matching::partner(s, n, i));
+    show(matching::enclosing(s, i));
+    show(matching::is_balanced(s, n) as usize);
+}
+
+fn cleared(k: usize) {
     let mut list = [7u16; 16];
-    bits::clear(&mut list, n);
-    show(total(&list));
+    bits::clear(&mut list, k);
+    show((list[8] == 0) as usize);
     io::write_all(STDOUT_FILENO, b"\n");
-}
-
-// The first n bits are made 1, and then what the kind says.
-fn fill(s: &mut [u8], kind: usize, n: usize) {
-    let mut i = 0;
-    while i < n {
-        bits::set_bit(s, i, true);
-        bits::set_bit(s, i, wanted(kind, n, i));
-        i += 1;
-    }
-}
-
-// Kind 0 opens and closes in turn; kind 1 opens n / 2 times and then closes; kind 2 is mixed.
-fn wanted(kind: usize, n: usize, i: usize) -> bool {
-    if kind == 0 {
-        return i % 2 == 1;
-    }
-    if kind == 1 {
-        return n / 2 <= i;
-    }
-    (i / 3 + i / 5 + i / 7) % 2 == 1
-}
-
-fn checksum(s: &[u8], n: usize) -> usize
-    requires { ⌜ n ≤ 4096 ⌝ }
-{
-    let mut h: usize = 0;
-    let mut i: usize = 0;
-    while i <= n {
-        h = read_at(s, n, i, h);
-        i += 1 + n / 64;
-    }
-    h
-}
-
-fn read_at(s: &[u8], n: usize, i: usize, h: usize) -> usize {
-    let a = fold(h, bits::bit(s, i));
-    let b = fold(a, bits::rank(s, 0, i));
-    let c = fold(b, bits::rank(s, 1, i));
-    let d = fold(c, bits::select(s, 0, n, i));
-    let e = fold(d, bits::select(s, 1, n, i));
-    let f = fold(e, bits::partner(s, n, i));
-    fold(f, bits::enclosing(s, i))
-}
-
-fn fold(h: usize, x: usize) -> usize {
-    (h % 65521 * 31 + x % 65521) % 65521
-}
-
-fn total(list: &[u16]) -> usize {
-    let mut sum: usize = 0;
-    let mut i = 0;
-    while i < list.len() {
-        sum = fold(sum, wide(list[i]));
-        i += 1;
-    }
-    sum
-}
-
-fn wide(x: u16) -> usize {
-    x as usize
-}
-
-fn flag(b: bool) -> usize {
-    if b { 1 } else { 0 }
 }
 
 fn show(x: usize) {
     io::print_decimal(STDOUT_FILENO, x as u64);
     io::write_all(STDOUT_FILENO, b" ");
-}
-
-fn space() -> [u8; 512]
-    ensures { λ r. ⌜ 512 ≡ length r ⌝ }
-{
-    [0; 512]
 }

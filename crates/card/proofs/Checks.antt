@@ -8,15 +8,13 @@
 -- brackets-not, brackets-left == 12, by the string that decides
 -- first-8 .. first-12, none == the first check that declines
 -- opens-size, opens-not  == opening gives m and n, or the number
--- opens-long, opens-short == a map that opens is as long as its header says, and its strings have at most 4,096 bits
 -- Assumes nothing.
 use mathlib.Core.Path.{_≡_, refl, sym, ap, ap₂, _∙_}
 use mathlib.Core.Bool.{Bool, true, false, not}
 use mathlib.Core.List.{List}
 use Prim.Native.Nat.{ℕ, zero, suc, _+_, _<_, _≤_}
 use native.Mathlib.Omega.{arith}
-use borrow.Author.Needs.{needs}
-use borrow.Author.Tests.{eq-eqb, le-leb, lt-leb, not-true, not-false}
+use borrow.Author.Tests.{le-leb, lt-leb, not-true, not-false}
 use lib.Dec.{eqb, leb}
 use lib.ListN.{length}
 use Rattle.count.proofs.Logic.{true-not-false}
@@ -26,7 +24,6 @@ use Rattle.bits.specs.Strings.{rank, brackets, unusedZero}
 use Rattle.drawing.specs.Session.{Answer, answer, refused}
 use Rattle.format.specs.Bytes.{header, Size, sizeIn, bitsA, bitsB, mapLength, partA, partB}
 use Rattle.format.specs.Open.{afterRefusal, sizeFits, lengthFits, unusedFits, onesFit, bracketsFit, openRefusal, openOf}
-use Rattle.format.proofs.Passes.{opens-passes}
 
 -- a test r that was computed, and the test t that it computes
 module _ (r t : Bool) (e : r ≡ t) where
@@ -151,32 +148,3 @@ module _ (s : List ℕ) where
       declined : (k : ℕ) → (k ≡ 0 → ⊥) → _≡_ {A = Answer Size} (refused k) (afterRefusal k (answer (sizeIn s)))
       declined zero n = absurd (n refl)
       declined (suc k) n = refl
-
-  -- ---- a map that opens
-  module _ (o : openRefusal s ≡ 0) where
-    pub opens-long : lengthFits s ≡ true
-    unfolding lengthFits
-    opens-long = eq-eqb (length s) (mapLength (sizeIn s)) (opens-passes s o .long)
-
-    short : (K : Family) → bitsB K (sizeIn s) ≤ 4096
-    short round = let P = opens-passes s o in omega (arith, P .m-most, P .n-most)
-    short square = let P = opens-passes s o in omega (arith, P .m-most, P .n-least)
-
-    pub opens-short : (K : Family) (r : ℕ) → r ≡ bitsB K (sizeIn s) → r ≤ 4096
-    opens-short K r e = omega (arith, short K)
-
-pub ruleset size-all = (too-short, too-many, no-point, points-fit, needs)
-
-pub ruleset length-all = (length-is, needs)
-
-pub ruleset unused-all = (unused-is, unused-a-not, unused-never, unused-b-not, unused-left, needs)
-
-pub ruleset ones-all = (ones-is, needs)
-
-pub ruleset brackets-all = (balanced-is, brackets-not, brackets-left, needs)
-
-pub ruleset refusal-all = (passes, fails, first-8, first-9, first-10, first-11, first-12, none, needs)
-
-pub ruleset open-all = (opens-size, opens-not, needs)
-
-pub ruleset strings-all = (opens-long, opens-short, needs)

@@ -1,3 +1,2 @@
 -- Opening a packed map: the laws.
 pub mod Checks
-pub mod Offsets

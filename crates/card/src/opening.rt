@@ -1,15 +1,15 @@
 // Opening: checks 8 to 12, each in one pass over its strings.
 use crate::answers::Opened;
-use crate::header::HEADER;
-use crate::header::borders;
-use crate::header::points;
-use crate::layout::ROUND;
-use crate::layout::SQUARE;
-use crate::layout::bits_a;
-use crate::layout::bits_b;
-use crate::layout::map_length;
-use crate::layout::part_a;
-use crate::layout::part_b;
+use layout::HEADER;
+use layout::ROUND;
+use layout::SQUARE;
+use layout::bits_a;
+use layout::bits_b;
+use layout::borders;
+use layout::map_length;
+use layout::part_a;
+use layout::part_b;
+use layout::points;
 ghost use mathlib.Core.Path.{_≡_};
 ghost use mathlib.Core.Bool.{true};
 ghost use Rattle.words.specs.Brackets.{balanced};
@@ -122,5 +122,5 @@ fn balanced_b(map: &[u8], v: usize) -> bool
     requires { ⌜ lengthFits (now map) ≡ true ⌝ }
     ensures { λ r. ⌜ r ≡ balanced (brackets (partB (familyOf v) (now (map .entry)))) (bitsB (familyOf v) (sizeIn (now (map .entry)))) ⌝ }
 {
-    bits::is_balanced(part_b(map, v), bits_b(map, v))
+    matching::is_balanced(part_b(map, v), bits_b(map, v))
 }

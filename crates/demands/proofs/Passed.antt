@@ -12,7 +12,7 @@ use mathlib.Core.Bool.{true, false}
 use mathlib.Core.List.{List}
 use Prim.Native.Nat.{ℕ, zero, suc, _+_, _-_, _*_, _≤_, _<_}
 use native.Mathlib.Omega.{arith}
-use Rattle.count.proofs.Logic.{same-or-not, true-or-false}
+use Rattle.count.proofs.Logic.{true-or-false}
 use Rattle.count.proofs.Counts.{count-le}
 use Rattle.orbits.specs.Cycles.{Permutes}
 use Rattle.words.specs.Brackets.{Balanced, step}
@@ -22,7 +22,7 @@ use Rattle.drawing.specs.Drawing.{Drawing, Cell, borders, ends, border, turn, i
 use Rattle.drawing.specs.Checks.{PassesSix, PassesSeven, Alternate, markCount}
 use Rattle.drawing.proofs.Ends.{turn-permutes, border-below}
 use Rattle.tours.specs.Tour.{MeetsAll}
-use Rattle.tours.proofs.Theorems.{tree-tour, tree-nests}
+use Rattle.tours.proofs.Theorems.{passes-meets, tree-nests}
 use Rattle.format.specs.Bytes.{Size, sizeIn, wordIn, mapBytes}
 use Rattle.format.specs.Fits.{Fits}
 use Rattle.format.specs.Open.{openRefusal}
@@ -30,28 +30,11 @@ use Rattle.format.specs.Pack.{wordOf, packedBytes}
 use Rattle.format.proofs.Encode.{encode-opens, decode-encode}
 use Rattle.format.proofs.Parts.{size-of-bytes}
 use Rattle.agreement.specs.Toured.{Toured}
-use Rattle.agreement.proofs.Positions.{end-zero}
 use Rattle.agreement.proofs.Nesting.{word-balanced, cross-mate}
 use Rattle.agreement.proofs.Steps.{turn-end}
 use Rattle.agreement.proofs.Counts.{points-count, letters-round}
 use Rattle.unpacking.specs.Faithful.{Faithful}
 use Rattle.demands.proofs.Alike.{Alike}
-
--- with no border there is nothing to meet
-meets-none : (D : Drawing) → borders D ≡ 0 → MeetsAll D
-unfolding ends
-meets-none D z =
-    record {
-      end-below = λ p l. absurd (omega arith);
-      position-below = λ h l. absurd (omega arith);
-      end-position = λ h l. absurd (omega arith);
-      position-end = λ p l. absurd (omega arith);
-      comes-back = let e : ends D ≡ 0 = omega arith in ap (endAt D) e ∙ end-zero D;
-    }
-
-passes-meets : (D : Drawing) → PassesSix D → MeetsAll D
-passes-meets D six =
-    elim (same-or-not (borders D) 0) [ inl z ↦ meets-none D z | inr n ↦ tree-tour D six (omega arith) ]
 
 -- the borders that alternate are borders of the drawing
 alternate-below : (D : Drawing) (a b : ℕ) → MeetsAll D → Alternate D a b → (a < borders D) × (b < borders D)

@@ -4,22 +4,26 @@
 -- other-other, other-border, other-below, other-moves == the other end's other end is the end itself; it is of the same border,
 --                       below 2m with it, and another end
 -- border-below       == the border of an end below 2m is below m
+-- border-two         == an end of h's border is h or its other end
+-- other-end          == the other end of an end is an end
+-- count-borders      == of the 2m ends, twice as many as of the m borders have a test of the border
 -- turn-permutes      == entries in range and distinct: the turning list is a permutation
 -- over-over, over-below, walk-permutes == crossing the borders of a set is an involution, and so each walk is a permutation
+-- end-zero, end-after == the tour begins at the start, and goes on by the tour's step
 -- Assumes nothing.
 use mathlib.Core.Path.{_≡_, refl, sym, ap, _∙_}
 use mathlib.Core.Logic.{_≢_, _⊎_, inl, inr}
 use mathlib.Core.Bool.{Bool, true, false}
-use Prim.Native.Nat.{ℕ, suc, pred, _+_, _*_, _/_, _%_, _<_}
+use Prim.Native.Nat.{ℕ, zero, suc, pred, _+_, _*_, _/_, _%_, _<_}
 use native.Mathlib.Omega.{arith}
 use native.Mathlib.Numerals.{add-one, sub-one}
 use lib.Dec.{eqb}
 use borrow.Author.Tests.{eq-eqb, ne-eqb}
-use Rattle.count.specs.Below.{pick}
+use Rattle.count.specs.Below.{pick, count}
 use Rattle.count.proofs.Logic.{same-or-not, lt-or-ge, pick-yes, pick-no, true-or-false}
 use Rattle.orbits.specs.Cycles.{Permutes}
-use Rattle.orbits.proofs.Iter.{permutes-involution, permutes-compose}
-use Rattle.drawing.specs.Drawing.{Drawing, borders, ends, border, other, turn, over, walk}
+use Rattle.orbits.proofs.Iter.{iter-zero, iter-next, permutes-involution, permutes-compose}
+use Rattle.drawing.specs.Drawing.{Drawing, borders, ends, border, other, turn, isMarked, over, walk, endAt}
 use Rattle.drawing.specs.Checks.{InRange, Distinct}
 
 -- by the last binary digit of h
@@ -96,6 +100,32 @@ pub border-below : (m h : ℕ) → h < 2 * m → border h < m
 unfolding border
 border-below m h b = omega arith
 
+pub border-two : (g h : ℕ) → border g ≡ border h → (g ≡ h) ⊎ (g ≡ other h)
+unfolding border
+border-two g h e =
+    elim (same-or-not g h) [
+      | inl s ↦ inl s
+      | inr d ↦
+          elim (parity h) [
+            | inl z ↦ inr (omega (arith, across h .even z))
+            | inr o ↦ inr (omega (arith, across h .odd o))
+          ]
+    ]
+
+pub other-end : (D : Drawing) (h : ℕ) → h < ends D → other h < ends D
+unfolding ends
+other-end D h l = other-below (borders D) h l
+
+pub count-borders : (S : ℕ → Bool) (m : ℕ) → count (λ h. S (border h)) (2 * m) ≡ 2 * count S m
+unfolding count border
+count-borders S zero = refl
+count-borders S (suc m) =
+    let two : 2 * suc m ≡ suc (suc (2 * m)) = omega arith in
+    let even : 2 * m / 2 ≡ m = omega arith in
+    let odd : suc (2 * m) / 2 ≡ m = omega arith in
+    let rest = count-borders S m in
+    rw (two, even, odd) (elim (true-or-false (S m)) [ inl t ↦ rw t (omega arith) | inr f ↦ rw f rest ])
+
 pub turn-permutes : (D : Drawing) → InRange D → Distinct D → Permutes (ends D) (turn D)
 turn-permutes D r d =
     record {
@@ -137,3 +167,11 @@ pub walk-permutes : (D : Drawing) (S : ℕ → Bool) → Permutes (ends D) (turn
 unfolding walk ends
 walk-permutes D S p =
     permutes-compose p (permutes-involution (ends D) (over S) (over-below S (borders D)) (λ x b. over-over S x))
+
+pub end-zero : (D : Drawing) → endAt D 0 ≡ D .start
+unfolding endAt
+end-zero D = iter-zero (walk D (isMarked D)) (D .start)
+
+pub end-after : (D : Drawing) (p : ℕ) → endAt D (p + 1) ≡ walk D (isMarked D) (endAt D p)
+unfolding endAt
+end-after D p = iter-next (walk D (isMarked D)) p (D .start)

@@ -3,4 +3,5 @@ pub mod Drawing
 pub mod Renumbered
 pub mod Checks
 pub mod Session
+pub mod Laid
 pub mod Book

@@ -12,30 +12,24 @@
 // declines with the number of the first check that fails.
 //
 // The source is document 01, "Moves", for the answers, and its table, rows 8 to 15, for the checks. The
-// definitions that the contracts cite are those of the crate `format`; specs/Answers.antt says what an
-// answer means.
-mod answers;
-mod cells;
-mod checks;
-mod moves;
-mod search;
-
-pub use answers::Area;
-pub use answers::AreaAnswer;
-pub use answers::Count;
-pub use answers::Place;
-pub use answers::PlaceAnswer;
-pub use answers::Point;
-pub use answers::PointAnswer;
-pub use cells::area_first;
-pub use cells::degree;
-pub use cells::neighbours;
-pub use cells::point_first;
-pub use cells::sides;
+// definitions that the contracts cite are those of the crate `format`. The types and their meaning are
+// those of `calls`; the functions stand in `moves`, `turns`, `counts` and `joining`.
+pub use calls::Area;
+pub use calls::AreaAnswer;
+pub use calls::Count;
+pub use calls::Place;
+pub use calls::PlaceAnswer;
+pub use calls::Point;
+pub use calls::PointAnswer;
+pub use counts::area_first;
+pub use counts::degree;
+pub use counts::neighbours;
+pub use counts::point_first;
+pub use counts::sides;
+pub use joining::joining;
 pub use moves::along;
 pub use moves::area_at;
 pub use moves::cross;
 pub use moves::point_at;
-pub use moves::turn;
-pub use moves::turn_back;
-pub use search::joining;
+pub use turns::turn;
+pub use turns::turn_back;

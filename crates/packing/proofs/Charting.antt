@@ -1,6 +1,5 @@
 -- From the working list to the drawing: the chart of its tour, its word, and what alternates.
 --
--- passes-meets     == the tour of a drawing that passes 1 to 6 meets all ends
 -- met-same         == tours that agree up to p agree whether p is a second place
 -- Chart D w        == the tour of D stands in w, and which places are second
 -- chart-made, chart-kept == it does after the tour and the flags, and where only the last third changes
@@ -9,7 +8,7 @@
 -- crossing-to, crossing-from == what alternates in it alternates in the drawing's tour, and the reverse
 -- Assumes nothing.
 use mathlib.Core.Path.{_≡_, refl, sym, ap, _∙_}
-use mathlib.Core.Logic.{_≢_, inl, inr}
+use mathlib.Core.Logic.{_≢_}
 use mathlib.Core.Bool.{Bool, true, false}
 use mathlib.Core.List.{List}
 use Prim.Native.Nat.{ℕ, _+_, _*_, _<_, _≤_}
@@ -18,39 +17,22 @@ use lib.Dec.{eqb}
 use lib.ListN.{length, getD}
 use borrow.Author.Tests.{eq-eqb, ne-eqb, eqb-true, eqb-false}
 use Rattle.count.specs.Below.{pick, count}
-use Rattle.count.proofs.Logic.{same-or-not, bool-same}
+use Rattle.count.proofs.Logic.{bool-same}
 use Rattle.count.proofs.Below.{any-has, any-from, count-same, count-le}
 use Rattle.orbits.specs.Cycles.{Permutes}
 use Rattle.orbits.proofs.Conjugate.{count-renamed}
 use Rattle.words.specs.Word.{round, square, sameFamily, Letter}
 use Rattle.drawing.specs.Drawing.{Drawing, Cell, borders, ends, border, isMarked, cells, endAt, positionOf, isSecond}
 use Rattle.drawing.specs.Checks.{PassesSix, Crossing, markCount}
-use Rattle.drawing.proofs.Ends.{border-below}
+use Rattle.drawing.proofs.Ends.{border-below, count-borders}
 use Rattle.tours.specs.Tour.{MeetsAll}
-use Rattle.tours.proofs.Theorems.{tree-tour, marks-at-least}
-use Rattle.agreement.proofs.Positions.{end-zero}
-use Rattle.agreement.proofs.Counts.{count-borders}
+use Rattle.tours.proofs.Theorems.{passes-meets, marks-at-least}
 use Rattle.format.specs.Bytes.{mapBytes}
 use Rattle.format.specs.Pack.{wordOf, packedBytes}
 use Rattle.format.proofs.Encode.{map-bytes-same}
 use Rattle.survey.specs.Lent.{lent, Blank, Kept}
-use Rattle.packing.specs.Working.{Outside, Tours, Clean, Charted, Crosses, endIn, borderIn, met}
-use Rattle.packing.specs.Writing.{wordAt, Legible, Sized}
-
-pub passes-meets : (D : Drawing) → PassesSix D → MeetsAll D
-unfolding ends
-passes-meets D six =
-    elim (same-or-not (borders D) 0) [
-      | inl z ↦
-          record {
-            end-below = λ p l. absurd (omega arith);
-            position-below = λ h l. absurd (omega arith);
-            end-position = λ h l. absurd (omega arith);
-            position-end = λ p l. absurd (omega arith);
-            comes-back = let e : ends D ≡ 0 = omega arith in ap (endAt D) e ∙ end-zero D;
-          }
-      | inr n ↦ tree-tour D six (omega arith)
-    ]
+use Rattle.touring.specs.Working.{Outside, Tours, Clean, Charted, Crosses, endIn, borderIn, met}
+use Rattle.writing.specs.Writing.{wordAt, Legible, Sized}
 
 meets-once : (D : Drawing) → MeetsAll D → Permutes (ends D) (endAt D)
 meets-once D M =
@@ -92,9 +74,6 @@ module _ (ts ms : List ℕ) (s : ℕ) (six : PassesSix (lent ts ms s)) where
   half = six .lengths .half
 
   module _ (w0 : List ℕ) (B : Blank (3 * length ts) w0) where
-    pub chart-room : length ts ≤ length w0
-    chart-room = omega (arith, B .room)
-
     module _ (w1 : List ℕ) (T : Tours (lent ts ms s) w1) (O : Outside 0 (length ts) w0 w1) where
       pub chart-clean : Clean (2 * length ms) w1
       unfolding ends borders

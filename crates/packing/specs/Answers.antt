@@ -2,7 +2,7 @@
 --
 -- packedMeans r    == the answer that the case r stands for: the map's length, or document 01's number
 -- lengthOf a       == the answer with the length in place of the bytes
--- Carries D r      == the pair that 7 carries is one that alternates
+-- Carries D r      == 7 comes with a pair, and that alternates
 -- written a old    == the output after the answer a
 -- workLeft k m old == the working list after refusal k, 0 where there is none
 -- laterRefusal D   == the first of 4 to 7 that applies; 0 where none does
@@ -10,6 +10,7 @@
 -- Packs D r old new == r is that answer, and the output is new after it
 -- Assumes nothing.
 use mathlib.Core.Path.{_≡_}
+use mathlib.Core.Logic.{_≢_}
 use mathlib.Core.Bool.{not, _&&_}
 use mathlib.Core.List.{List, _++_}
 use Prim.Native.Nat.{ℕ, _*_}
@@ -40,7 +41,7 @@ lengthOf (refused k) = refused k
 abbrev pub Carries : Drawing → Packed → Type 0
 Carries D (the-case.Length l) = Unit {0}
 Carries D (the-case.Crossing a b) = CrossingPair D a b
-Carries D (the-case.Declined k) = Unit {0}
+Carries D (the-case.Declined k) = k ≢ 7
 
 -- 01: "Output memory is unchanged." "An accepted pack writes the map's bytes and its length and touches nothing beyond."
 abbrev pub written : Answer (List ℕ) → List ℕ → List ℕ

@@ -1,10 +1,6 @@
 // Packing: checks 1 to 7 in the order of document 01's table, then the map.
 use crate::answers::Packed;
-use crate::crossing::Found;
-use crate::crossing::find_crossing;
-use crate::tour::seconds;
-use crate::tour::tour;
-use crate::write::write_map;
+use crossing::Found;
 ghost use mathlib.Core.Path.{_≡_};
 ghost use Prim.Native.Nat.{_*_, _≤_};
 ghost use lib.ListN.{length};
@@ -50,13 +46,13 @@ fn checked(turning: &[u16], marks: &[u8], start: usize, work: &mut [u16], out: &
     ensures { λ r. ⌜ Packs (lent (now (turning .entry)) (now (marks .entry)) start) r (now (out .entry)) (now (out .exit)) ⌝ }
     ensures { λ _. ⌜ Kept (6 * length (now (marks .entry))) (now (work .entry)) (now (work .exit)) ⌝ }
 {
-    if !survey::is_distinct(turning, work) {
+    if !flagging::is_distinct(turning, work) {
         return Packed::Declined(4);
     }
-    if !survey::is_joined(turning, marks, work) {
+    if !linking::is_joined(turning, marks, work) {
         return Packed::Declined(5);
     }
-    let n = survey::count_points(turning, work);
+    let n = flagging::count_points(turning, work);
     if n <= survey::count_marks(marks) {
         return Packed::Declined(6);
     }
@@ -76,10 +72,10 @@ fn finish(
     ensures { λ r. ⌜ Packs (lent (now (turning .entry)) (now (marks .entry)) start) r (now (out .entry)) (now (out .exit)) ⌝ }
     ensures { λ _. ⌜ Kept (6 * length (now (marks .entry))) (now (work .entry)) (now (work .exit)) ⌝ }
 {
-    tour(turning, marks, start, work);
-    seconds(work, 2 * marks.len());
-    match find_crossing(marks, work) {
+    touring::tour(turning, marks, start, work);
+    touring::seconds(work, 2 * marks.len());
+    match crossing::find_crossing(marks, work) {
         Found::Pair(a, b) => Packed::Crossing(a, b),
-        Found::Nothing => Packed::Length(write_map(marks, n, work, out)),
+        Found::Nothing => Packed::Length(writing::write_map(marks, n, work, out)),
     }
 }

@@ -3,17 +3,14 @@
 //     pack   writes the map, or names the check that declines
 //
 // Conventions. A drawing is lent as its turning list, its marks and its start; in a contract it is
-// `lent` of the crate `survey`. The working list has three thirds of 2m entries: the tour, which
-// places are second, and a stack. It is used after check 3 and left with its first 6m entries 0.
-// The output is touched only where every check passed.
+// `lent` of the crate `survey`. The working list has three thirds of 2m entries. It is used after
+// check 3 and left with its first 6m entries 0. The output is touched only where every check passed.
 //
-// The definitions that the contracts cite are in specs/ and in the crates `drawing` and `format`.
+// The checks are in the crates `survey` (1, 3 and 6), `flagging` (4 and 6), `linking` (5) and
+// `crossing` (7), the tour is in `touring`, the bytes in `writing`. The definitions that the contracts
+// cite are in specs/ and in the crates `drawing` and `format`.
 mod answers;
 mod checks;
-mod crossing;
-mod tour;
-mod work;
-mod write;
 
 pub use answers::Packed;
 pub use checks::pack;

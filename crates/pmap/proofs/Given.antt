@@ -17,14 +17,14 @@ use Rattle.format.specs.Open.{openOf}
 use Rattle.format.specs.Calls.{crossOf, turnOf, turnBackOf, alongOf, pointOf, areaOf, firstOf, sizeOf, neighboursOf, joiningOf}
 use Rattle.card.specs.Answers.{openedMeans}
 use Rattle.card.specs.declared.answers.Opened.{Opened}
-use Rattle.map.specs.Answers.{placeMeans, pointMeans, areaMeans, countMeans}
-use Rattle.map.specs.declared.answers.Place.{Place}
-use Rattle.map.specs.declared.answers.Point.{Point}
-use Rattle.map.specs.declared.answers.Area.{Area}
-use Rattle.map.specs.declared.answers.PlaceAnswer.{PlaceAnswer}
-use Rattle.map.specs.declared.answers.PointAnswer.{PointAnswer}
-use Rattle.map.specs.declared.answers.AreaAnswer.{AreaAnswer}
-use Rattle.map.specs.declared.answers.Count.{Count}
+use Rattle.calls.specs.Answers.{placeMeans, pointMeans, areaMeans, countMeans}
+use Rattle.calls.specs.declared.answers.Place.{Place}
+use Rattle.calls.specs.declared.answers.Point.{Point}
+use Rattle.calls.specs.declared.answers.Area.{Area}
+use Rattle.calls.specs.declared.answers.PlaceAnswer.{PlaceAnswer}
+use Rattle.calls.specs.declared.answers.PointAnswer.{PointAnswer}
+use Rattle.calls.specs.declared.answers.AreaAnswer.{AreaAnswer}
+use Rattle.calls.specs.declared.answers.Count.{Count}
 use Rattle.pmap.specs.Cells.{cellAfter, bordersGiven, pointsGiven}
 use Rattle.pmap.proofs.Bounds.{move-small, first-small, size-small, joining-small, open-small}
 

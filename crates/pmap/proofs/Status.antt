@@ -1,23 +1,24 @@
 -- A status of 0 is success: no call declines with the number 0.
 --
 -- own-tells  == so of a call's own answer after its checks
--- move-tells, first-tells, size-tells, joining-tells, open-tells == so of every call
+-- move-tells, first-tells, size-tells, joining-tells, open-tells, pack-tells, unpack-tells == so of every call
 -- Assumes nothing.
 use mathlib.Core.Path.{_≡_, refl}
 use mathlib.Core.Bool.{Bool, true, false, _&&_}
 use mathlib.Core.List.{List}
-use Prim.Native.Nat.{ℕ, zero, suc, pred}
+use Prim.Native.Nat.{ℕ, zero, suc, pred, _*_}
 use native.Mathlib.Omega.{arith}
 use lib.Dec.{ltb, leb}
 use Rattle.count.specs.Below.{pick}
 use Rattle.words.specs.Brackets.{first}
 use Rattle.words.specs.Word.{round, seen}
-use Rattle.drawing.specs.Drawing.{Cell}
+use Rattle.drawing.specs.Drawing.{Drawing, Cell}
 use Rattle.drawing.specs.Session.{Answer, answer, refused, numberOf, Call}
 use Rattle.drawing.specs.Book.{noSuch}
 use Rattle.format.specs.Bytes.{sizeIn, wordIn}
 use Rattle.format.specs.Open.{openRefusal, afterRefusal, opened, openOf}
 use Rattle.format.specs.Calls.{moveIn, atPlace, mapAnswer, isNumber, firstIn, firstOf, placesIn, sizeOf, joinIn, joiningOf}
+use Rattle.format.specs.Pack.{packedBytes, packRefusal, packOf, drawingOf, unpackOf}
 use Rattle.pmap.specs.Cells.{Tells}
 
 refused-tells : {A : Type 0} (k : ℕ) → (k ≡ 0 → ⊥) → Tells {A = A} (refused k)
@@ -27,12 +28,12 @@ refused-tells k m = record { answered = λ e. absurd (m e) }
 answer-tells : {A : Type 0} (x : A) → Tells (answer x)
 answer-tells x = record { answered = λ e. (x, refl) }
 
--- a call's own answer, after opening
+-- a call's own answer, after the checks before it
 opened-tells : {A : Type 0} (o : ℕ) (a : Answer A) → Tells a → Tells (afterRefusal o a)
 opened-tells zero a h = h
 opened-tells (suc o) a h = refused-tells (suc o) (λ e. omega arith)
 
-own-tells : (t : Bool) (x k : ℕ) → (k ≡ 0 → ⊥) → Tells (pick t (answer x) (refused k))
+own-tells : {A : Type 0} (t : Bool) (x : A) (k : ℕ) → (k ≡ 0 → ⊥) → Tells (pick t (answer x) (refused k))
 own-tells true x k m = answer-tells x
 own-tells false x k m = refused-tells k m
 
@@ -70,3 +71,14 @@ module _ (s : List ℕ) where
       let t : Bool = isNumber (sizeIn s) Cell.point u && isNumber (sizeIn s) Cell.point v in
       let x : ℕ = joinIn (wordIn s) v (placesIn (wordIn s) Cell.point u) (first (seen round (wordIn s)) (wordIn s .size) u) in
       opened-tells (openRefusal s) (pick t (answer x) (refused 14)) (own-tells t x 14 (λ e. omega arith))
+
+  pub unpack-tells : (t k : ℕ) → Tells (unpackOf s t k)
+  unfolding unpackOf opened
+  unpack-tells t k =
+      let room : Bool = leb (2 * sizeIn s .m) t && leb (sizeIn s .m) k in
+      opened-tells (openRefusal s) (pick room (answer (drawingOf (wordIn s))) (refused 16))
+      (own-tells room (drawingOf (wordIn s)) 16 (λ e. omega arith))
+
+pub pack-tells : (D : Drawing) (w o : ℕ) → Tells (packOf D w o)
+unfolding packOf
+pack-tells D w o = opened-tells (packRefusal D w o) (answer (packedBytes D)) (answer-tells (packedBytes D))

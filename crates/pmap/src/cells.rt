@@ -6,7 +6,7 @@ use map::PointAnswer;
 ghost use mathlib.Core.Path.{_≡_};
 ghost use Prim.Native.Nat.{_<_};
 ghost use Rattle.drawing.specs.Session.{numberOf};
-ghost use Rattle.map.specs.Answers.{placeMeans, pointMeans, areaMeans, countMeans};
+ghost use Rattle.calls.specs.Answers.{placeMeans, pointMeans, areaMeans, countMeans};
 ghost use Rattle.pmap.specs.Cells.{cellAfter};
 
 pub fn give_place(a: PlaceAnswer, out: &mut u16) -> u8

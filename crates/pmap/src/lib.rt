@@ -6,15 +6,20 @@
 //     pmap_point_first, pmap_degree                          of a point
 //     pmap_area_first, pmap_sides, pmap_neighbours           of an area
 //     pmap_joining                                           the joining border of two points
+//     pmap_pack, pmap_unpack                                 from a drawing to a map, and back
 //
 // Conventions. Each function returns a status: 0, or the number of the check that declines. The answer goes to
-// a cell that the host lends, and a call that declines leaves the cell as it was. Numbers come in as usize, so
-// that nothing is cut: place 65,537 is declined, not taken for 1. No function asks anything of its caller.
+// cells and lists that the host lends, and a call that declines leaves them as they were. Only the working list of
+// pmap_pack is cleared by most refusals too, and only pmap_pack returns more than a status: the pair of borders
+// that 7 carries. Numbers come in as usize, so that nothing is cut: place 65,537 is declined, not taken for 1. No
+// function asks anything of its caller.
 //
-// The functions only pass on what the crates `card` and `map` answer. The definitions that the contracts cite are
-// those of the crate `format`; specs/Cells.antt says what a cell holds after a call.
+// The functions only pass on what the crates `card`, `map`, `packing` and `unpack` answer. The definitions that the
+// contracts cite are those of the crate `format`, with `packing` and `unpack` for the lists that are lent to them;
+// specs/Cells.antt says what a cell holds after a call, specs/Desk.antt what pmap_pack returns.
 mod areas;
 mod cells;
+mod desk;
 mod opening;
 mod places;
 mod points;
@@ -22,6 +27,8 @@ mod points;
 pub use areas::pmap_area_first;
 pub use areas::pmap_neighbours;
 pub use areas::pmap_sides;
+pub use desk::pmap_pack;
+pub use desk::pmap_unpack;
 pub use opening::pmap_open;
 pub use places::pmap_along;
 pub use places::pmap_area;

@@ -39,8 +39,6 @@ lengths-are ts ms l s =
     })
     (lengths-decides (lent ts ms s))
 
-pub ruleset lengths-all = (lengths-long, lengths-are, needs)
-
 -- ---- entries_below, marks_fit
 pub ranged-all : (ts : List ℕ) (h : ℕ) → Passed (λ i. next ts i < length ts) (length ts) h → length ts ≤ h → Decides true (Ranged ts)
 ranged-all ts h S l = decides-yes (record { below = passed-all (λ i. next ts i < length ts) (length ts) h S l })
@@ -82,24 +80,22 @@ module _ (ts ms : List ℕ) (s : ℕ) (F : LengthsFit (lent ts ms s)) where
   unfolding ends borders
   range-below I = omega (arith, I .start, F .half)
 
-  pub range-start : (b : ℕ) → b ≡ max (length ts) 1 → b ≤ s → false ≡ inRange (lent ts ms s)
-  range-start b e l = decides-same (decides-no (λ I. omega (arith, range-below I))) (range-decides (lent ts ms s))
+  pub range-start : max (length ts) 1 ≤ s → false ≡ inRange (lent ts ms s)
+  range-start l = decides-same (decides-no (λ I. omega (arith, range-below I))) (range-decides (lent ts ms s))
 
   pub range-entries : (q : Bool) → Decides q (Ranged ts) → q ≡ false → false ≡ inRange (lent ts ms s)
   range-entries q d e =
       decides-same (decides-no (λ I. decides-refutes d e (ranged-from ts ms s F I))) (range-decides (lent ts ms s))
 
-  pub range-marks : (b : ℕ) → b ≡ max (length ts) 1 → s < b → (q : Bool) → Decides q (Ranged ts) → q ≡ true
+  pub range-marks : s < max (length ts) 1 → (q : Bool) → Decides q (Ranged ts) → q ≡ true
       → (r : Bool) → Decides r (Binary ms) → r ≡ inRange (lent ts ms s)
-  range-marks b e l q d t r D =
+  range-marks l q d t r D =
       decides-same
       (record {
-        sound = λ h. in-range-from (d .sound t) (rw e at l) (D .sound h);
+        sound = λ h. in-range-from (d .sound t) l (D .sound h);
         complete = λ I. D .complete (range-binary I);
       })
       (range-decides (lent ts ms s))
-
-pub ruleset range-all = (range-start, range-entries, range-marks, needs)
 
 -- ---- count_marks
 pub record Marked (ms : List ℕ) (e n : ℕ) : Type 0 where
@@ -136,4 +132,4 @@ module _ (ms : List ℕ) where
       let h : e ≡ length ms = omega (arith, M .within) in
       rw h at (M .so-far)
 
-pub ruleset count-marks-all = (marked-start, marked-yes, marked-no, marked-end, needs)
+pub ruleset count-marks-all = (marked-end, needs)

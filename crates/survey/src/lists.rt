@@ -1,5 +1,5 @@
 // What one pass over each list tells: lengths, ranges, marks.
-use crate::work::wide;
+use crate::ends::wide;
 ghost use mathlib.Core.Path.{_≡_};
 ghost use mathlib.Core.List.{List};
 ghost use Prim.Native.Nat.{ℕ, _≤_, _<_, max};

@@ -4,6 +4,9 @@
 -- decimal-digits  == every byte of a decimal number is a digit
 -- decimal-first   == a decimal number has a first byte, which is the byte of 0 only if the number is 0
 -- digitFirst s    == whether s begins with a digit
+-- decides-digit   == a byte is a digit exactly if it is 48 to 57
+-- digits-on, digits-stop  == one digit more is read, or none
+-- number-zero, number-none, number-on == what the first byte decides: 0 alone, no number, a number from there on
 -- read-decimal    == a decimal number is read back, if no digit follows it
 -- number-decimal  == what is read as a number is the decimal number, then the rest
 -- Assumes nothing.
@@ -45,7 +48,7 @@ pub decimal-more : (x : ℕ) → 10 ≤ x → decimal x ≡ decimal (x / 10) ++ 
 unfolding decimal
 decimal-more x h = more-fuel x ∙ rw (le-ltb x 10 h, decimalIn, fuel-same x (x / 10) (x / 10) (omega arith) (omega arith))
 
-decides-digit : (c : ℕ) → Decides (isDigit c) ((zeroByte ≤ c) × (c ≤ zeroByte + 9))
+pub decides-digit : (c : ℕ) → Decides (isDigit c) ((zeroByte ≤ c) × (c ≤ zeroByte + 9))
 decides-digit c = decides-both (decides-le zeroByte c) (decides-le c (zeroByte + 9))
 
 digit-byte : (d : ℕ) → d < 10 → isDigit (zeroByte + d) ≡ true
@@ -91,11 +94,11 @@ abbrev pub digitFirst : List ℕ → Bool
 digitFirst [] = false
 digitFirst (c ∷ s) = isDigit c
 
-digits-on : (c x : ℕ) (s : List ℕ) → isDigit c ≡ true → readDigits (c ∷ s) x ≡ readDigits s (10 * x + (c - zeroByte))
+pub digits-on : (c x : ℕ) (s : List ℕ) → isDigit c ≡ true → readDigits (c ∷ s) x ≡ readDigits s (10 * x + (c - zeroByte))
 unfolding readDigits
 digits-on c x s h = rw (h, readDigits)
 
-digits-stop : (x : ℕ) (s : List ℕ) → digitFirst s ≡ false → readDigits s x ≡ record { value = x; rest = s }
+pub digits-stop : (x : ℕ) (s : List ℕ) → digitFirst s ≡ false → readDigits s x ≡ record { value = x; rest = s }
 unfolding readDigits
 digits-stop x [] h = refl
 digits-stop x (c ∷ s) h = rw (h, readDigits)
@@ -116,15 +119,15 @@ digits-decimal =
           (before (x / 10) (omega arith) ((zeroByte + x % 10) ∷ t) ∙ digits-on (zeroByte + x % 10) (x / 10) t d ∙ ap (readDigits t) e)
     ])
 
-number-zero : (c : ℕ) (s : List ℕ) → c ≡ zeroByte → readNumber (c ∷ s) ≡ some (record { value = 0; rest = s })
+pub number-zero : (c : ℕ) (s : List ℕ) → c ≡ zeroByte → readNumber (c ∷ s) ≡ some (record { value = 0; rest = s })
 unfolding readNumber
 number-zero c s e = rw e
 
-number-none : (c : ℕ) (s : List ℕ) → isDigit c ≡ false → readNumber (c ∷ s) ≡ none
+pub number-none : (c : ℕ) (s : List ℕ) → isDigit c ≡ false → readNumber (c ∷ s) ≡ none
 unfolding readNumber
 number-none c s h = rw h
 
-number-on : (c : ℕ) (s : List ℕ) → isDigit c ≡ true → c ≢ zeroByte → readNumber (c ∷ s) ≡ some (readDigits s (c - zeroByte))
+pub number-on : (c : ℕ) (s : List ℕ) → isDigit c ≡ true → c ≢ zeroByte → readNumber (c ∷ s) ≡ some (readDigits s (c - zeroByte))
 unfolding readNumber
 number-on c s h n = rw (h, ne-eqb c zeroByte n)
 

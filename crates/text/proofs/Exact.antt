@@ -4,7 +4,10 @@
 -- rowLines e T M  == the lines from border e on of the turning list T and the marks M
 -- drawing-lines   == the text of a drawing is the line of names and those lines of its lists
 -- Within n T M    == the lists T and M are of at most n borders, and within the limits
+-- lines-end, lines-step    == no lines are read from no text; a line that is read, and the lines after it
+-- some-row                 == where a line was put before others, the others were read
 -- read-rows, rows-read     == lines are read exactly if they are those of lists within the limits
+-- text-is                  == a text is read by its line of names and its lines
 -- reads-text, text-denotes == a text is read as a drawing exactly if it denotes it
 -- denotes-one     == a text denotes at most one drawing
 -- refuses-17      == every other text is refused with 17
@@ -82,12 +85,12 @@ within-less n a b v T M W =
       small = λ i l. W .small (suc i) (omega arith);
     }
 
-lines-end : (n e : ℕ) → readLines n e [] ≡ some (record { turning = []; marks = [] })
+pub lines-end : (n e : ℕ) → readLines n e [] ≡ some (record { turning = []; marks = [] })
 unfolding readLines
 lines-end zero e = refl
 lines-end (suc n) e = refl
 
-lines-step : (n e : ℕ) (s : List ℕ) (l : Line) → readLine e s ≡ some l → readLines (suc n) e s ≡ addRow l (readLines n (suc e) (l .rest))
+pub lines-step : (n e : ℕ) (s : List ℕ) (l : Line) → readLine e s ≡ some l → readLines (suc n) e s ≡ addRow l (readLines n (suc e) (l .rest))
 unfolding readLines
 lines-step n e [] l q = absurd (Option·none-ne-some l q)
 lines-step n e (c ∷ s) l q = rw q
@@ -113,7 +116,7 @@ read-rows (suc n) e (a ∷ c ∷ T) (v ∷ M) b W =
     ∙ rw (read-rows n (suc e) T M (omega arith) (within-less n a c v T M W))
 
 module _ {C : Type 0} where
-  some-row : (l : Line) (o : Option Rows) (t : Rows) → addRow l o ≡ some t
+  pub some-row : (l : Line) (o : Option Rows) (t : Rows) → addRow l o ≡ some t
       → ((r : Rows) → o ≡ some r → record { turning = l .first ∷ l .second ∷ r .turning; marks = l .mark ∷ r .marks } ≡ t → C) → C
   some-row l none t q k = absurd (Option·none-ne-some t q)
   some-row l (some r) t q k = k r refl (Option·some-injective (record { turning = l .first ∷ l .second ∷ r .turning; marks = l .mark ∷ r .marks }) t q)
@@ -148,7 +151,7 @@ rows-read (suc n) e (c ∷ s) t q =
 drawing-same : (D E : Drawing) → D .turning ≡ E .turning → D .marks ≡ E .marks → D .start ≡ E .start → D ≡ E
 drawing-same D E t m s = λ i. record { turning = t i; marks = m i; start = s i }
 
-text-is : (s : List ℕ) → readText s ≡ drawingOr17 (with (afterPrefix names s) (λ r. readLines 2048 0 r))
+pub text-is : (s : List ℕ) → readText s ≡ drawingOr17 (with (afterPrefix names s) (λ r. readLines 2048 0 r))
 unfolding readText
 text-is s = refl
 

@@ -3,3 +3,4 @@ pub mod Cases
 pub mod Decimal
 pub mod Lines
 pub mod Exact
+pub mod Short

@@ -2,6 +2,7 @@
 --
 -- marks-at-least    == marked borders that join all points number at least n - 1
 -- tree-tour         == if they number no more, the tour meets all ends, each once
+-- passes-meets      == the same of every drawing that passes 1 to 6, one without borders too
 -- tree-nests        == and no two marked borders alternate in it
 -- crossing-not-flat == if two unmarked borders alternate in it, the drawing has few areas: areas + points ≤ borders
 -- alternate-few     == the law behind the last two, over any set of borders
@@ -21,7 +22,7 @@ use Rattle.tours.proofs.Exchange.{over-permutes, over-rest}
 use Rattle.drawing.proofs.Cells.{cells-are, points-are}
 use Rattle.tours.proofs.Tour.{tour-permutes, start-below, tree-one-cycle}
 pub use Rattle.tours.proofs.Merging.{marks-at-least}
-pub use Rattle.tours.proofs.Tour.{tree-tour}
+pub use Rattle.tours.proofs.Tour.{tree-tour, passes-meets}
 pub use Rattle.tours.proofs.Alternate.{Alternates, alternate-few}
 
 -- what alternates in a drawing's tour alternates on the walk of its step

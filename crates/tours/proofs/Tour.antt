@@ -6,6 +6,7 @@
 -- tree-one-cycle == the tour's step has one cycle
 -- tour-permutes, start-below == it permutes the ends, and the start is one of them
 -- tree-tour      == the tour meets all ends, each once
+-- passes-meets   == so does the tour of every drawing that passes 1 to 6, where there are none too
 -- Assumes nothing.
 use mathlib.Core.Path.{_≡_, refl, sym, ap, _∙_}
 use mathlib.Core.Logic.{inl, inr}
@@ -13,7 +14,7 @@ use mathlib.Core.Bool.{Bool, true, false, not, _&&_, true≢false}
 use Prim.Native.Nat.{ℕ, _+_, _*_, _<_}
 use native.Mathlib.Omega.{arith}
 use Rattle.count.specs.Below.{count}
-use Rattle.count.proofs.Logic.{lt-or-ge, true-or-false, both-left}
+use Rattle.count.proofs.Logic.{same-or-not, lt-or-ge, true-or-false, both-left}
 use Rattle.count.proofs.Below.{count-same}
 use Rattle.orbits.specs.Cycles.{Permutes, SameCycle, cycles}
 use Rattle.orbits.proofs.Iter.{iter-below}
@@ -21,7 +22,7 @@ use Rattle.orbits.proofs.Same.{same-cycle-induct}
 use Rattle.orbits.proofs.Classes.{cycles-same}
 use Rattle.drawing.specs.Drawing.{Drawing, borders, ends, border, turn, isMarked, over, walk, endAt, positionOf}
 use Rattle.drawing.specs.Checks.{PassesSix, markCount}
-use Rattle.drawing.proofs.Ends.{turn-permutes, walk-permutes, over-yes, over-no, over-below}
+use Rattle.drawing.proofs.Ends.{turn-permutes, walk-permutes, over-yes, over-no, over-below, end-zero}
 use Rattle.drawing.proofs.Labels.{label, label-turn}
 use Rattle.tours.specs.Tour.{MeetsAll}
 use Rattle.orbits.proofs.Steps.{steps-below, steps-reach, steps-of, steps-close}
@@ -98,3 +99,19 @@ tree-tour D six pos =
       position-end = steps-of p one (D .start) l;
       comes-back = steps-close p one (D .start) l;
     }
+
+-- with no border there is nothing to meet
+meets-none : (D : Drawing) → borders D ≡ 0 → MeetsAll D
+unfolding ends
+meets-none D z =
+    record {
+      end-below = λ p l. absurd (omega arith);
+      position-below = λ h l. absurd (omega arith);
+      end-position = λ h l. absurd (omega arith);
+      position-end = λ p l. absurd (omega arith);
+      comes-back = let e : ends D ≡ 0 = omega arith in ap (endAt D) e ∙ end-zero D;
+    }
+
+pub passes-meets : (D : Drawing) → PassesSix D → MeetsAll D
+passes-meets D six =
+    elim (same-or-not (borders D) 0) [ inl z ↦ meets-none D z | inr n ↦ tree-tour D six (omega arith) ]

@@ -17,11 +17,11 @@ use Rattle.count.specs.Below.{pick}
 use Rattle.count.proofs.Logic.{both, not-both, pick-yes, pick-no}
 use Rattle.drawing.specs.Drawing.{Drawing, borders}
 use Rattle.drawing.specs.Session.{Answer, answer, refused}
+use Rattle.drawing.specs.Laid.{bordersOf, laid, turningAfter, marksAfter}
 use Rattle.format.specs.Bytes.{sizeIn, wordIn}
 use Rattle.format.specs.Open.{openRefusal, afterRefusal, opened}
 use Rattle.format.specs.Pack.{drawingOf, unpackOf}
 use Rattle.unpacking.proofs.Drawing.{drawing-half}
-use Rattle.unpack.specs.Answers.{bordersOf, laid, turningAfter, marksAfter}
 use Rattle.unpack.proofs.Placed.{nested-in}
 
 abbrev pub Outcome : List ℕ → List ℕ → List ℕ → Answer ℕ → List ℕ → List ℕ → Type 0

@@ -12,7 +12,6 @@ use mathlib.Core.Bool.{Bool, true, false, not, _&&_}
 use mathlib.Core.List.{List}
 use Prim.Native.Nat.{ℕ, _+_, _*_, _<_, _≤_}
 use native.Mathlib.Omega.{arith}
-use borrow.Author.Needs.{needs}
 use Rattle.count.specs.Below.{count}
 use Rattle.count.proofs.Logic.{true-or-false}
 use Rattle.count.proofs.Below.{count-same, count-split}
@@ -33,7 +32,6 @@ use Rattle.unpacking.proofs.Ends.{end-in-opens, end-in-closes, end-in-below}
 use Rattle.walks.specs.Positions.{places, seenIn, Inside, Position}
 use Rattle.walks.proofs.Openings.{thin-openings}
 use Rattle.walks.proofs.Decoded.{thins, places-most}
-use Rattle.walks.proofs.Walks.{stands}
 use Rattle.unpack.specs.Openings.{openingsIn}
 
 pub nested-in : (s : List ℕ) → openRefusal s ≡ 0 → (K : Family) → Balanced (seen K (wordIn s)) (wordIn s .size)
@@ -119,5 +117,3 @@ module _ (s a : List ℕ) (p x : ℕ) (ha : a ≡ partA s) (hx : x ≡ bit a p) 
 
   pub mark-square : x < 2 → (x ≡ 1 → ⊥) → 0 ≡ familyBit (wordIn s .letter p .family)
   mark-square l m = let e : 0 ≡ x = omega arith in e ∙ mark-is
-
-pub ruleset placed-all = (family-openings, both-openings, end-closes, end-opens, mark-round, mark-square, stands, needs)

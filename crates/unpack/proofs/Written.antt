@@ -11,7 +11,6 @@ use mathlib.Core.Logic.{inl, inr}
 use mathlib.Core.List.{List}
 use Prim.Native.Nat.{ℕ, _+_, _-_, _*_, _/_, _<_, _≤_}
 use native.Mathlib.Omega.{arith}
-use borrow.Author.Needs.{needs}
 use lib.Dec.{eqb}
 use lib.ListN.{length, getD, set, drop, length-set, length-append, length-drop, List·getD-append}
 use lib.Seq.{getD-set-same, getD-set-other, getD-append-add, getD-drop, ext-getD}
@@ -21,6 +20,7 @@ use Rattle.count.proofs.Lists.{table-length, table-getD}
 use Rattle.words.specs.Brackets.{step}
 use Rattle.words.specs.Word.{Family, round, square, sameFamily, seen}
 use Rattle.drawing.specs.Drawing.{border, isMarked}
+use Rattle.drawing.specs.Laid.{laid}
 use Rattle.format.specs.Bytes.{sizeIn, familyBit, wordIn}
 use Rattle.format.specs.Open.{openRefusal}
 use Rattle.format.specs.Pack.{endIn, positionIn, drawingOf}
@@ -28,8 +28,6 @@ use Rattle.unpacking.proofs.Ends.{position-in, position-in-below, position-in-e
 use Rattle.unpacking.proofs.Drawing.{drawing-marked}
 use Rattle.walks.specs.Positions.{places, seenIn, Inside, Position}
 use Rattle.walks.proofs.Decoded.{places-most}
-use Rattle.walks.proofs.Walks.{stands}
-use Rattle.unpack.specs.Answers.{laid}
 use Rattle.unpack.proofs.Placed.{nested-in}
 
 module _ (s old : List ℕ) (k : ℕ) (F e : ℕ → ℕ) (n : ℕ) where
@@ -180,5 +178,3 @@ module _ (s old : List ℕ) (n : ℕ) where
         let i : positionIn w (2 * x) < w .size = position-in-below w bal (2 * x) k in
         (positionIn w (2 * x), omega (arith, W .size), ap (λ z. z / 2) (position-in-end w bal (2 * x) k) ∙ omega arith))
         ∙ ap (λ z. laid (table (markOf s) z) old) half
-
-pub ruleset written-all = (turning-start, turning-more, turning-end, marking-start, marking-more, marking-end, inside-here, stands, needs)

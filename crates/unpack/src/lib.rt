@@ -8,8 +8,8 @@
 // entries after the first 2m turning entries and the first m marks do.
 //
 // The source is document 01, "Tour and packed map", and its table, rows 8 to 12 and 16. The drawing of
-// a word is defined in the crate `format`; specs/Answers.antt says what an answer means and what the
-// lists hold after it.
+// a word is defined in the crate `format`; specs/Answers.antt says what an answer means, and the crate
+// `drawing`, specs/Laid.antt, what the lists hold after it.
 mod answers;
 mod ends;
 mod lists;

@@ -8,11 +8,12 @@ use walks::step_at;
 ghost use mathlib.Core.Path.{_≡_};
 ghost use Prim.Native.Nat.{_≤_};
 ghost use lib.ListN.{length};
+ghost use Rattle.drawing.specs.Laid.{bordersOf, laid, turningAfter, marksAfter};
 ghost use Rattle.format.specs.Bytes.{sizeIn, wordIn};
 ghost use Rattle.format.specs.Open.{openRefusal};
 ghost use Rattle.format.specs.Pack.{drawingOf, unpackOf};
 ghost use Rattle.walks.specs.Positions.{places};
-ghost use Rattle.unpack.specs.Answers.{unpackedMeans, bordersOf, laid, turningAfter, marksAfter};
+ghost use Rattle.unpack.specs.Answers.{unpackedMeans};
 
 // Writes the drawing of the map and answers m, or declines: 8 to 12, then 16: "lists under 2m or m entries".
 pub fn unpack(map: &[u8], turning: &mut [u16], marks: &mut [u8]) -> Unpacked

@@ -1,7 +1,5 @@
 -- The word of a map's bytes: the laws.
 pub mod Openings
 pub mod Partners
-pub mod Scan
 pub mod Decoded
 pub mod Walks
-pub mod Counting

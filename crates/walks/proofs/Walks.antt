@@ -12,7 +12,6 @@ use mathlib.Core.Path.{_≡_, sym, ap, _∙_}
 use mathlib.Core.List.{List}
 use Prim.Native.Nat.{ℕ, _+_, _-_, _<_, _≤_}
 use native.Mathlib.Omega.{arith}
-use borrow.Author.Needs.{needs}
 use Rattle.words.specs.Brackets.{inner, mate, step, number, first}
 use Rattle.words.specs.Word.{crossing}
 use Rattle.words.proofs.Stack.{inner-le, inner-inner}
@@ -116,5 +115,3 @@ module _ (s : List ℕ) (v k : ℕ) where
       (ap (λ x. x + 1) f
       ∙ sym (first-ranks s v (N .family) (N .opens) (k - 2) (omega (arith, N .least, N .most, cells-openings s v (N .family) (N .opens))))
       ∙ ap (first (seenIn v s) (places s)) i)
-
-pub ruleset word-all = (mate-own, mate-other, step-last, step-next, number-is-rank, cross-is, first-one, first-more, needs)

@@ -6,7 +6,6 @@
 //     step_at       the next position about the same point, the same area
 //     number_at     the number of its point, of its area
 //     first_at      the first position of a point, of an area
-//     size_at       how many places a point, an area has
 //
 // Conventions. Positions count from 0: position p is place p + 1. Points and areas count from 1. A
 // family of brackets goes by its bit in the string A: 1 for the round ones, which enclose points, 0
@@ -16,12 +15,10 @@
 // The source is document 01, "Tour and packed map" and "Moves". The definitions that the contracts cite
 // are those of the crate `words`, of the word that `format` finds in the bytes; specs/Positions.antt
 // says what is asked.
-mod sizes;
 mod word;
 
-pub use sizes::size_at;
-pub use word::ROUND;
-pub use word::SQUARE;
+pub use layout::ROUND;
+pub use layout::SQUARE;
 pub use word::crossing_at;
 pub use word::first_at;
 pub use word::mate_at;

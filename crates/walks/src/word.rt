@@ -6,16 +6,11 @@ ghost use Rattle.words.specs.Word.{crossing};
 ghost use Rattle.format.specs.Bytes.{wordIn};
 ghost use Rattle.walks.specs.Positions.{places, seenIn, Inside, Position, Numbered};
 
-// The bit that A has at a place of a round bracket, and of a square one.
-pub const ROUND: usize = 1;
-
-pub const SQUARE: usize = 0;
-
 // How many places there are: 2m.
 pub fn places(map: &[u8]) -> usize
     ensures { λ r. ⌜ (r ≡ places (now (map .entry))) × (r < 131072) ⌝ }
 {
-    2 * card::borders(map)
+    2 * layout::borders(map)
 }
 
 // The partner of position p, in its own family.
@@ -23,7 +18,7 @@ pub fn crossing_at(map: &[u8], p: usize) -> usize
     requires { ⌜ Inside (now map) p ⌝ }
     ensures { λ r. ⌜ Position (now (map .entry)) (crossing (wordIn (now (map .entry))) p) r ⌝ }
 {
-    mate_at(map, bits::bit(card::string_a(map), p), p)
+    mate_at(map, bits::bit(strings::string_a(map), p), p)
 }
 
 // The partner of position p in family v; p itself where p is of the other family.
@@ -31,11 +26,11 @@ pub fn mate_at(map: &[u8], v: usize, p: usize) -> usize
     requires { ⌜ Inside (now map) p × (v < 2) ⌝ }
     ensures { λ r. ⌜ Position (now (map .entry)) (mate (seenIn v (now (map .entry))) (places (now (map .entry))) p) r ⌝ }
 {
-    let a = card::string_a(map);
+    let a = strings::string_a(map);
     if bits::bit(a, p) == v {
-        let b = card::string_b(map, v);
+        let b = strings::string_b(map, v);
         let i = bits::rank(a, v, p);
-        let j = bits::partner(b, card::length_b(map, v), i);
+        let j = matching::partner(b, strings::length_b(map, v), i);
         bits::select(a, v, places(map), j)
     } else {
         p
@@ -56,9 +51,9 @@ pub fn number_at(map: &[u8], v: usize, p: usize) -> usize
     requires { ⌜ Inside (now map) p × (v < 2) ⌝ }
     ensures { λ r. ⌜ r ≡ number (seenIn v (now (map .entry))) p ⌝ }
 {
-    let b = card::string_b(map, v);
-    let j = bits::rank(card::string_a(map), v, p);
-    bits::rank(b, 0, bits::enclosing(b, j)) + 1
+    let b = strings::string_b(map, v);
+    let j = bits::rank(strings::string_a(map), v, p);
+    bits::rank(b, 0, matching::enclosing(b, j)) + 1
 }
 
 // The first position of point (area) k: 0, or the one after the bracket that reaches it.
@@ -69,7 +64,7 @@ pub fn first_at(map: &[u8], v: usize, k: usize) -> usize
     if k == 1 {
         return 0;
     }
-    let b = card::string_b(map, v);
-    let j = bits::select(b, 0, card::length_b(map, v), k - 2);
-    bits::select(card::string_a(map), v, places(map), j) + 1
+    let b = strings::string_b(map, v);
+    let j = bits::select(b, 0, strings::length_b(map, v), k - 2);
+    bits::select(strings::string_a(map), v, places(map), j) + 1
 }

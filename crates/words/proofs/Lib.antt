@@ -9,5 +9,6 @@ pub mod Step
 pub mod Numbers
 pub mod Points
 pub mod Sizes
+pub mod Halves
 pub mod Same
 pub mod Thin

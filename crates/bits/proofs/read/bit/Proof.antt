@@ -1,13 +1,14 @@
 -- `bits::read::bit` meets its contract. Assumes nothing.
+use native.Mathlib.Omega.{arith}
 use Rattle.bits.proofs.Loops.{bit-all}
 use Rattle.bits.proofs.read.bit.Statement.{statement}
 use Rattle.bits.proofs.read.bit.Tie as tie
 
 shared-slice-read-digit : tie.Need-shared-slice-read-digit
-shared-slice-read-digit c = search bit-all
+shared-slice-read-digit c = omega arith
 
 digit-requires : tie.Need-digit-requires
-digit-requires c κs = search bit-all
+digit-requires c κs = omega arith
 
 returns : tie.Need-returns
 returns c = search bit-all

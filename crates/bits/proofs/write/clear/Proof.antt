@@ -1,4 +1,5 @@
 -- `bits::write::clear` meets its contract. The loop keeps `Filled`: the first entries are 0, the rest as before. Assumes nothing.
+use native.Mathlib.Omega.{arith}
 use Prim.Native.Nat.{_-_}
 use Rattle.bits.proofs.Stores.{Filled, clear-all}
 use Rattle.bits.proofs.write.clear.Statement.{statement}
@@ -11,28 +12,28 @@ abbrev μ-loop : tie.MeasureT-loop
 μ-loop s₀ k n i₀ s i = n - i
 
 least-requires : tie.Need-least-requires Inv-loop μ-loop
-least-requires c κs = search clear-all
+least-requires c κs = omega arith
 
 loop-holds : tie.Need-loop-holds Inv-loop μ-loop
 loop-holds c = search clear-all
 
 mul-s : tie.Need-mul-s Inv-loop μ-loop
-mul-s c = search clear-all
+mul-s c = omega arith
 
 slice-write-s : tie.Need-slice-write-s Inv-loop μ-loop
-slice-write-s c = search clear-all
+slice-write-s c = omega arith
 
 add-i : tie.Need-add-i Inv-loop μ-loop
-add-i c = search clear-all
+add-i c = omega arith
 
 loop-less : tie.Need-loop-less Inv-loop μ-loop
-loop-less c = search clear-all
+loop-less c = omega arith
 
 loop-again : tie.Need-loop-again Inv-loop μ-loop
 loop-again c = search clear-all
 
 same-length : tie.Need-same-length Inv-loop μ-loop
-same-length c = search clear-all
+same-length c = omega arith
 
 returns : tie.Need-returns Inv-loop μ-loop
 returns c = search clear-all

@@ -1,19 +1,20 @@
 -- `card::opening::brackets_fit` meets its contract. Assumes nothing.
-use Rattle.card.proofs.Checks.{brackets-all}
+use borrow.Author.Needs.{needs}
+use Rattle.card.proofs.Checks.{brackets-not, brackets-left}
 use Rattle.card.proofs.opening.brackets_fit.Statement.{statement}
 use Rattle.card.proofs.opening.brackets_fit.Tie as tie
 
 balanced-b-requires : tie.Need-balanced-b-requires
-balanced-b-requires c κs = search brackets-all
+balanced-b-requires c κs = search needs
 
 balanced-b-requires-2 : tie.Need-balanced-b-requires-2
-balanced-b-requires-2 c κs = search brackets-all
+balanced-b-requires-2 c κs = search needs
 
 returns : tie.Need-returns
-returns c = search brackets-all
+returns c = search brackets-left
 
 returns-2 : tie.Need-returns-2
-returns-2 c = search brackets-all
+returns-2 c = search brackets-not
 
 pub brackets-fit-spec : {M : Type 1} → statement M
 brackets-fit-spec =

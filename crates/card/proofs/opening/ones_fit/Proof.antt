@@ -1,22 +1,23 @@
 -- `card::opening::ones_fit` meets its contract. Assumes nothing.
-use Rattle.card.proofs.Checks.{ones-all}
+use borrow.Author.Needs.{needs}
+use Rattle.card.proofs.Checks.{ones-is}
 use Rattle.card.proofs.opening.ones_fit.Statement.{statement}
 use Rattle.card.proofs.opening.ones_fit.Tie as tie
 
 part-a-requires : tie.Need-part-a-requires
-part-a-requires c κs = search ones-all
+part-a-requires c κs = search needs
 
 bits-a-requires : tie.Need-bits-a-requires
-bits-a-requires c κs = search ones-all
+bits-a-requires c κs = search needs
 
 rank-requires : tie.Need-rank-requires
-rank-requires c κs = search ones-all
+rank-requires c κs = search needs
 
 bits-b-requires : tie.Need-bits-b-requires
-bits-b-requires c κs = search ones-all
+bits-b-requires c κs = search needs
 
 returns : tie.Need-returns
-returns c = search ones-all
+returns c = search ones-is
 
 pub ones-fit-spec : {M : Type 1} → statement M
 ones-fit-spec =

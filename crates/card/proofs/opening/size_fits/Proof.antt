@@ -1,28 +1,29 @@
 -- `card::opening::size_fits` meets its contract. Assumes nothing.
-use Rattle.card.proofs.Checks.{size-all}
+use borrow.Author.Needs.{needs}
+use Rattle.card.proofs.Checks.{too-short, too-many, no-point, points-fit}
 use Rattle.card.proofs.opening.size_fits.Statement.{statement}
 use Rattle.card.proofs.opening.size_fits.Tie as tie
 
 borders-requires : tie.Need-borders-requires
-borders-requires c κs = search size-all
+borders-requires c κs = search needs
 
 points-requires : tie.Need-points-requires
-points-requires c κs = search size-all
+points-requires c κs = search needs
 
 returns : tie.Need-returns
-returns c = search size-all
+returns c = search too-short
 
 returns-2 : tie.Need-returns-2
-returns-2 c = search size-all
+returns-2 c = search too-many
 
 returns-3 : tie.Need-returns-3
-returns-3 c = search size-all
+returns-3 c = search no-point
 
 add-result : tie.Need-add-result
-add-result c = search size-all
+add-result c = search needs
 
 returns-4 : tie.Need-returns-4
-returns-4 c = search size-all
+returns-4 c = search points-fit
 
 pub size-fits-spec : {M : Type 1} → statement M
 size-fits-spec =

@@ -1,8 +1,9 @@
 -- `packing::checks::checked` meets its contract. Assumes nothing.
 use mathlib.Core.Path.{_∙_}
+use native.Mathlib.Omega.{arith}
 use borrow.Author.Needs.{needs}
 use Rattle.survey.proofs.Laws.{blank-still}
-use Rattle.packing.proofs.Order.{checked-ranged, checked-turns, checked-4, checked-5, checked-6, checked-six, kept-same, kept-on}
+use Rattle.packing.proofs.Later.{checked-ranged, checked-turns, checked-4, checked-5, checked-6, checked-six, kept-same, kept-on}
 use Rattle.packing.proofs.checks.checked.Statement.{statement}
 use Rattle.packing.proofs.checks.checked.Tie as tie
 
@@ -56,7 +57,7 @@ returns-3 c =
     let j = c .before .before .before .before .before .before .before .before .before .is-joined .ensures in
     let n = c .before .before .before .before .count-points .ensures in
     let m = c .before .count-marks .ensures in (
-      checked-6 _ _ _ (p .0) (p .1) _ (d .0) (c .before .before .before .before .before .before .before .before .before .before .before .if1 .left) _ (j .0) (c .before .before .before .before .before .before .if2 .left) _ (n .0) _ (m .0) (c .if3 .taken) _,
+      checked-6 _ _ _ (p .0) (p .1) _ (d .0) (c .before .before .before .before .before .before .before .before .before .before .before .if1 .left) _ (j .0) (c .before .before .before .before .before .before .if2 .left) _ (n .0) _ (m .0) (omega (arith, c .if3 .taken)) _,
       kept-same _ _ _ (n .1 .1 ∙ j .1 ∙ d .1),
     )
 
@@ -67,7 +68,7 @@ finish-requires c κs =
     let j = c .before .before .before .before .before .before .before .before .before .before .before .is-joined .ensures in
     let n = c .before .before .before .before .before .before .count-points .ensures in
     let m = c .before .before .before .count-marks .ensures in (
-      checked-six _ _ _ (p .0) (p .1) _ (d .0) (c .before .before .before .before .before .before .before .before .before .before .before .before .before .if1 .left) _ (j .0) (c .before .before .before .before .before .before .before .before .if2 .left) _ (n .0) _ (m .0) (c .before .before .if3 .left),
+      checked-six _ _ _ (p .0) (p .1) _ (d .0) (c .before .before .before .before .before .before .before .before .before .before .before .before .before .if1 .left) _ (j .0) (c .before .before .before .before .before .before .before .before .if2 .left) _ (n .0) _ (m .0) (omega (arith, c .before .before .if3 .left)),
       n .0 _ _ (p .0 .half),
       blank-still _ _ _ (p .2) (n .1 .1 ∙ j .1 ∙ d .1),
       p .3,

@@ -1,7 +1,7 @@
 -- `packing::checks::finish` meets its contract. Assumes nothing.
 use borrow.Author.Needs.{needs}
 use Rattle.packing.proofs.Charting.{chart-clean, chart-made, chart-charted, chart-kept, chart-kept-all, chart-legible, chart-sized}
-use Rattle.packing.proofs.Order.{finish-pair, finish-none}
+use Rattle.packing.proofs.Later.{finish-pair, finish-none}
 use Rattle.packing.proofs.checks.finish.Statement.{statement}
 use Rattle.packing.proofs.checks.finish.Tie as tie
 

@@ -2,7 +2,8 @@
 use mathlib.Core.Logic.{⊎-elim}
 use Prim.Native.Nat.{_-_}
 use lib.ListN.{length}
-use Rattle.survey.proofs.Scans.{Marked, count-marks-all}
+use borrow.Author.Needs.{needs}
+use Rattle.survey.proofs.Scans.{Marked, count-marks-all, marked-no, marked-start, marked-yes}
 use Rattle.survey.proofs.lists.count_marks.Statement.{statement}
 use Rattle.survey.proofs.lists.count_marks.Tie as tie
 
@@ -13,22 +14,22 @@ abbrev μ-loop : tie.MeasureT-loop
 μ-loop marks e₀ n₀ e n = length marks - e
 
 loop-holds : tie.Need-loop-holds Inv-loop μ-loop
-loop-holds c = search count-marks-all
+loop-holds c = search marked-start
 
 shared-slice-read-if1 : tie.Need-shared-slice-read-if1 Inv-loop μ-loop
-shared-slice-read-if1 c = search count-marks-all
+shared-slice-read-if1 c = search needs
 
 add-n : tie.Need-add-n Inv-loop μ-loop
-add-n c = search count-marks-all
+add-n c = search needs
 
 add-e : tie.Need-add-e Inv-loop μ-loop
-add-e c = search count-marks-all
+add-e c = search needs
 
 loop-less : tie.Need-loop-less Inv-loop μ-loop
-loop-less c = search count-marks-all
+loop-less c = search needs
 
 loop-again : tie.Need-loop-again Inv-loop μ-loop
-loop-again c = ⊎-elim (λ w. search count-marks-all) (λ w. search count-marks-all) (c .if1 .came)
+loop-again c = ⊎-elim (λ w. search marked-yes) (λ w. search marked-no) (c .if1 .came)
 
 returns : tie.Need-returns Inv-loop μ-loop
 returns c = search count-marks-all

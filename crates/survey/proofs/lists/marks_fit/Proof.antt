@@ -1,8 +1,10 @@
 -- `survey::lists::marks_fit` meets its contract. The loop keeps `Passed`: the marks passed are 0 or 1. Assumes nothing.
 use Prim.Native.Nat.{_-_, _≤_}
+use native.Mathlib.Omega.{arith}
 use lib.ListN.{length, getD}
+use borrow.Author.Needs.{needs}
 use Rattle.survey.proofs.Decided.{Passed}
-use Rattle.survey.proofs.Scans.{marks-all}
+use Rattle.survey.proofs.Scans.{binary-not, marks-all}
 use Rattle.survey.proofs.lists.marks_fit.Statement.{statement}
 use Rattle.survey.proofs.lists.marks_fit.Tie as tie
 
@@ -16,16 +18,16 @@ loop-holds : tie.Need-loop-holds Inv-loop μ-loop
 loop-holds c = search marks-all
 
 shared-slice-read-if1 : tie.Need-shared-slice-read-if1 Inv-loop μ-loop
-shared-slice-read-if1 c = search marks-all
+shared-slice-read-if1 c = search needs
 
 returns : tie.Need-returns Inv-loop μ-loop
-returns c = search marks-all
+returns c = binary-not _ _ (c .before .before .loop-test .taken) (omega (arith, c .if1 .taken))
 
 add-e : tie.Need-add-e Inv-loop μ-loop
-add-e c = search marks-all
+add-e c = search needs
 
 loop-less : tie.Need-loop-less Inv-loop μ-loop
-loop-less c = search marks-all
+loop-less c = search needs
 
 loop-again : tie.Need-loop-again Inv-loop μ-loop
 loop-again c = search marks-all

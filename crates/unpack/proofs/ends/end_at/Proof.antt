@@ -1,5 +1,5 @@
 -- `unpack::ends::end_at` meets its contract. Assumes nothing.
-use Rattle.unpack.proofs.Placed.{placed-all}
+use Rattle.unpack.proofs.Placed.{end-closes, end-opens}
 use borrow.Author.Needs.{needs}
 use Rattle.unpack.proofs.ends.end_at.Statement.{statement}
 use Rattle.unpack.proofs.ends.end_at.Tie as tie
@@ -23,10 +23,10 @@ mul-result-2 : tie.Need-mul-result-2
 mul-result-2 c = search needs
 
 returns : tie.Need-returns
-returns c = search placed-all
+returns c = search end-closes
 
 returns-2 : tie.Need-returns-2
-returns-2 c = search placed-all
+returns-2 c = search end-opens
 
 pub end-at-spec : {M : Type 1} → statement M
 end-at-spec =

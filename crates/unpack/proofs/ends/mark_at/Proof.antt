@@ -1,5 +1,5 @@
 -- `unpack::ends::mark_at` meets its contract. Assumes nothing.
-use Rattle.unpack.proofs.Placed.{placed-all}
+use Rattle.unpack.proofs.Placed.{mark-round, mark-square}
 use borrow.Author.Needs.{needs}
 use Rattle.unpack.proofs.ends.mark_at.Statement.{statement}
 use Rattle.unpack.proofs.ends.mark_at.Tie as tie
@@ -11,10 +11,10 @@ bit-requires : tie.Need-bit-requires
 bit-requires c κs = search needs
 
 returns : tie.Need-returns
-returns c = search placed-all
+returns c = search mark-round
 
 returns-2 : tie.Need-returns-2
-returns-2 c = search placed-all
+returns-2 c = search mark-square
 
 pub mark-at-spec : {M : Type 1} → statement M
 mark-at-spec = tie.close (tie.spec string-a-requires bit-requires returns returns-2)

@@ -1,5 +1,5 @@
 -- `unpack::ends::openings` meets its contract. Assumes nothing.
-use Rattle.unpack.proofs.Placed.{placed-all}
+use Rattle.unpack.proofs.Placed.{family-openings}
 use borrow.Author.Needs.{needs}
 use Rattle.unpack.proofs.ends.openings.Statement.{statement}
 use Rattle.unpack.proofs.ends.openings.Tie as tie
@@ -17,7 +17,7 @@ rank-requires-2 : tie.Need-rank-requires-2
 rank-requires-2 c κs = search needs
 
 returns : tie.Need-returns
-returns c = search placed-all
+returns c = (search family-openings, search needs)
 
 pub openings-spec : {M : Type 1} → statement M
 openings-spec =

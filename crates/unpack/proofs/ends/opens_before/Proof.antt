@@ -1,5 +1,5 @@
 -- `unpack::ends::opens_before` meets its contract. Assumes nothing.
-use Rattle.unpack.proofs.Placed.{placed-all}
+use Rattle.unpack.proofs.Placed.{both-openings}
 use borrow.Author.Needs.{needs}
 use Rattle.unpack.proofs.ends.opens_before.Statement.{statement}
 use Rattle.unpack.proofs.ends.opens_before.Tie as tie
@@ -14,7 +14,7 @@ add-result : tie.Need-add-result
 add-result c = search needs
 
 returns : tie.Need-returns
-returns c = search placed-all
+returns c = (search both-openings, search needs)
 
 pub opens-before-spec : {M : Type 1} → statement M
 opens-before-spec = tie.close (tie.spec openings-requires openings-requires-2 add-result returns)

@@ -1,6 +1,7 @@
 -- `unpack::lists::write_marks` meets its contract. The loop keeps `Marking`: the marks of the borders passed are written, the others are as before. Assumes nothing.
 use Prim.Native.Nat.{_-_}
-use Rattle.unpack.proofs.Written.{Marking, written-all}
+use borrow.Author.Needs.{needs}
+use Rattle.unpack.proofs.Written.{Marking, marking-start, marking-more, marking-end, inside-here}
 use Rattle.unpack.proofs.lists.write_marks.Statement.{statement}
 use Rattle.unpack.proofs.lists.write_marks.Tie as tie
 
@@ -11,34 +12,34 @@ abbrev μ-loop : tie.MeasureT-loop
 μ-loop map marks₀ n p₀ marks p = n - p
 
 places-requires : tie.Need-places-requires Inv-loop μ-loop
-places-requires c κs = search written-all
+places-requires c κs = search needs
 
 loop-holds : tie.Need-loop-holds Inv-loop μ-loop
-loop-holds c = search written-all
+loop-holds c = search marking-start
 
 end-at-requires : tie.Need-end-at-requires Inv-loop μ-loop
-end-at-requires c κs = search written-all
+end-at-requires c κs = search inside-here
 
 mark-at-requires : tie.Need-mark-at-requires Inv-loop μ-loop
-mark-at-requires c κs = search written-all
+mark-at-requires c κs = search inside-here
 
 slice-write-marks : tie.Need-slice-write-marks Inv-loop μ-loop
-slice-write-marks c = search written-all
+slice-write-marks c = search needs
 
 add-p : tie.Need-add-p Inv-loop μ-loop
-add-p c = search written-all
+add-p c = search needs
 
 loop-less : tie.Need-loop-less Inv-loop μ-loop
-loop-less c = search written-all
+loop-less c = search needs
 
 loop-again : tie.Need-loop-again Inv-loop μ-loop
-loop-again c = search written-all
+loop-again c = search marking-more
 
 same-length : tie.Need-same-length Inv-loop μ-loop
-same-length c = search written-all
+same-length c = search needs
 
 returns : tie.Need-returns Inv-loop μ-loop
-returns c = search written-all
+returns c = search marking-end
 
 pub write-marks-spec : {M : Type 1} → statement M
 write-marks-spec =

@@ -1,6 +1,8 @@
 -- `unpack::lists::write_turning` meets its contract. The loop keeps `Turning`: the entries of the ends passed are written, the others are as before. Assumes nothing.
 use Prim.Native.Nat.{_-_}
-use Rattle.unpack.proofs.Written.{Turning, written-all}
+use borrow.Author.Needs.{needs}
+use Rattle.walks.proofs.Walks.{stands}
+use Rattle.unpack.proofs.Written.{Turning, turning-start, turning-more, turning-end, inside-here}
 use Rattle.unpack.proofs.lists.write_turning.Statement.{statement}
 use Rattle.unpack.proofs.lists.write_turning.Tie as tie
 
@@ -11,43 +13,43 @@ abbrev μ-loop : tie.MeasureT-loop
 μ-loop map turning₀ n p₀ turning p = n - p
 
 places-requires : tie.Need-places-requires Inv-loop μ-loop
-places-requires c κs = search written-all
+places-requires c κs = search needs
 
 loop-holds : tie.Need-loop-holds Inv-loop μ-loop
-loop-holds c = search written-all
+loop-holds c = search turning-start
 
 end-at-requires : tie.Need-end-at-requires Inv-loop μ-loop
-end-at-requires c κs = search written-all
+end-at-requires c κs = search inside-here
 
 step-at-requires : tie.Need-step-at-requires Inv-loop μ-loop
-step-at-requires c κs = search written-all
+step-at-requires c κs = search (inside-here, needs)
 
 end-at-requires-2 : tie.Need-end-at-requires-2 Inv-loop μ-loop
-end-at-requires-2 c κs = search written-all
+end-at-requires-2 c κs = search (inside-here, stands)
 
 cast-turning : tie.Need-cast-turning Inv-loop μ-loop
-cast-turning c = search written-all
+cast-turning c = search needs
 
 mul-turning : tie.Need-mul-turning Inv-loop μ-loop
-mul-turning c = search written-all
+mul-turning c = search needs
 
 slice-write-turning : tie.Need-slice-write-turning Inv-loop μ-loop
-slice-write-turning c = search written-all
+slice-write-turning c = search needs
 
 add-p : tie.Need-add-p Inv-loop μ-loop
-add-p c = search written-all
+add-p c = search needs
 
 loop-less : tie.Need-loop-less Inv-loop μ-loop
-loop-less c = search written-all
+loop-less c = search needs
 
 loop-again : tie.Need-loop-again Inv-loop μ-loop
-loop-again c = search written-all
+loop-again c = search turning-more
 
 same-length : tie.Need-same-length Inv-loop μ-loop
-same-length c = search written-all
+same-length c = search needs
 
 returns : tie.Need-returns Inv-loop μ-loop
-returns c = search written-all
+returns c = search turning-end
 
 pub write-turning-spec : {M : Type 1} → statement M
 write-turning-spec =

@@ -1,11 +1,11 @@
 -- `walks::word::first_at` meets its contract. Assumes nothing.
-use Rattle.walks.proofs.Walks.{word-all}
+use Rattle.walks.proofs.Walks.{first-one, first-more}
 use borrow.Author.Needs.{needs}
 use Rattle.walks.proofs.word.first_at.Statement.{statement}
 use Rattle.walks.proofs.word.first_at.Tie as tie
 
 returns : tie.Need-returns
-returns c = search word-all
+returns c = search first-one
 
 string-b-requires : tie.Need-string-b-requires
 string-b-requires c κs = search needs
@@ -32,7 +32,7 @@ add-result : tie.Need-add-result
 add-result c = search needs
 
 returns-2 : tie.Need-returns-2
-returns-2 c = search word-all
+returns-2 c = search first-more
 
 pub first-at-spec : {M : Type 1} → statement M
 first-at-spec =

@@ -1,5 +1,5 @@
 -- `walks::word::mate_at` meets its contract. Assumes nothing.
-use Rattle.walks.proofs.Walks.{word-all}
+use Rattle.walks.proofs.Walks.{mate-own, mate-other}
 use borrow.Author.Needs.{needs}
 use Rattle.walks.proofs.word.mate_at.Statement.{statement}
 use Rattle.walks.proofs.word.mate_at.Tie as tie
@@ -29,10 +29,10 @@ select-requires : tie.Need-select-requires
 select-requires c κs = search needs
 
 returns : tie.Need-returns
-returns c = search word-all
+returns c = search mate-own
 
 returns-2 : tie.Need-returns-2
-returns-2 c = search word-all
+returns-2 c = search mate-other
 
 pub mate-at-spec : {M : Type 1} → statement M
 mate-at-spec =

@@ -1,5 +1,5 @@
 -- `walks::word::number_at` meets its contract. Assumes nothing.
-use Rattle.walks.proofs.Walks.{word-all}
+use Rattle.walks.proofs.Walks.{number-is-rank}
 use borrow.Author.Needs.{needs}
 use Rattle.walks.proofs.word.number_at.Statement.{statement}
 use Rattle.walks.proofs.word.number_at.Tie as tie
@@ -23,7 +23,7 @@ add-result : tie.Need-add-result
 add-result c = search needs
 
 returns : tie.Need-returns
-returns c = search word-all
+returns c = search number-is-rank
 
 pub number-at-spec : {M : Type 1} → statement M
 number-at-spec =

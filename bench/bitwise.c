@@ -1,0 +1,244 @@
+/* (a) The same checks and the same calls, bit by bit in plain C. */
+#include "calls.h"
+
+struct strings {
+    const uint8_t *a, *b[2]; /* b[1] is B, b[0] is B* */
+    size_t places, length[2];
+    size_t m, n;
+};
+
+static int bit(const uint8_t *s, size_t i)
+{
+    return s[i / 8] >> (i % 8) & 1;
+}
+
+static int unused_zero(const uint8_t *s, size_t bits)
+{
+    size_t i;
+
+    for (i = bits; i % 8 != 0; i++)
+        if (bit(s, i))
+            return 0;
+    return 1;
+}
+
+static int balanced(const uint8_t *s, size_t bits)
+{
+    size_t i, depth = 0;
+
+    for (i = 0; i < bits; i++)
+        if (!bit(s, i))
+            depth++;
+        else if (depth-- == 0)
+            return 0;
+    return depth == 0;
+}
+
+static size_t rank(const uint8_t *s, int v, size_t i)
+{
+    size_t k, found = 0;
+
+    for (k = 0; k < i; k++)
+        found += bit(s, k) == v;
+    return found;
+}
+
+static size_t select(const uint8_t *s, int v, size_t bits, size_t j)
+{
+    size_t k;
+
+    for (k = 0; k < bits; k++)
+        if (bit(s, k) == v && j-- == 0)
+            break;
+    return k;
+}
+
+/* The innermost bracket that is open just before i: 1 + its position, or 0. */
+static size_t enclosing(const uint8_t *s, size_t i)
+{
+    size_t depth = 0;
+
+    for (; i > 0; i--)
+        if (bit(s, i - 1))
+            depth++;
+        else if (depth-- == 0)
+            return i;
+    return 0;
+}
+
+static size_t partner(const uint8_t *s, size_t bits, size_t i)
+{
+    size_t depth = 0;
+
+    if (bit(s, i))
+        return enclosing(s, i) - 1;
+    for (i++; i < bits; i++)
+        if (!bit(s, i))
+            depth++;
+        else if (depth-- == 0)
+            return i;
+    return bits;
+}
+
+static uint8_t refuse(const uint8_t *map, size_t length, struct strings *x)
+{
+    size_t bytes_a, bytes_b;
+
+    if (length < 4)
+        return 8;
+    x->m = map[0] + 256u * map[1];
+    x->n = map[2] + 256u * map[3];
+    if (x->m > 2048 || x->n < 1 || x->n > x->m + 1)
+        return 8;
+    x->places = 2 * x->m;
+    x->length[1] = 2 * x->n - 2;
+    x->length[0] = 2 * (x->m + 1 - x->n);
+    bytes_a = (x->places + 7) / 8;
+    bytes_b = (x->length[1] + 7) / 8;
+    if (length != 4 + bytes_a + bytes_b + (x->length[0] + 7) / 8)
+        return 9;
+    x->a = map + 4;
+    x->b[1] = x->a + bytes_a;
+    x->b[0] = x->b[1] + bytes_b;
+    if (!unused_zero(x->a, x->places) || !unused_zero(x->b[1], x->length[1]) || !unused_zero(x->b[0], x->length[0]))
+        return 10;
+    if (rank(x->a, 1, x->places) != x->length[1])
+        return 11;
+    if (!balanced(x->b[1], x->length[1]) || !balanced(x->b[0], x->length[0]))
+        return 12;
+    return 0;
+}
+
+static size_t mate(const struct strings *x, int v, size_t p)
+{
+    if (bit(x->a, p) != v)
+        return p;
+    return select(x->a, v, x->places, partner(x->b[v], x->length[v], rank(x->a, v, p)));
+}
+
+static size_t number(const struct strings *x, int v, size_t p)
+{
+    return rank(x->b[v], 0, enclosing(x->b[v], rank(x->a, v, p))) + 1;
+}
+
+static size_t first(const struct strings *x, int v, size_t k)
+{
+    if (k == 1)
+        return 0;
+    return select(x->a, v, x->places, select(x->b[v], 0, x->length[v], k - 2)) + 1;
+}
+
+static size_t size(const struct strings *x, int v, size_t k)
+{
+    size_t p = first(x, v, k), j = rank(x->a, v, p), depth = 0, found = 0;
+
+    for (; p < x->places; p++) {
+        found += depth == 0;
+        if (bit(x->a, p) == v) {
+            if (!bit(x->b[v], j))
+                depth++;
+            else if (depth-- == 0)
+                return found;
+            j++;
+        }
+    }
+    return found;
+}
+
+static size_t step(const struct strings *x, int v, size_t p)
+{
+    size_t q = mate(x, v, p) + 1;
+
+    return q < x->places ? q : 0;
+}
+
+static uint8_t open(const uint8_t *map, size_t length, uint16_t *m, uint16_t *n)
+{
+    struct strings x;
+    uint8_t status = refuse(map, length, &x);
+
+    if (status == 0) {
+        *m = (uint16_t)x.m;
+        *n = (uint16_t)x.n;
+    }
+    return status;
+}
+
+static size_t turn(const struct strings *x, size_t p)
+{
+    size_t q = mate(x, 1, p);
+
+    return q < p || q + 1 == x->places ? 0 : q + 2;
+}
+
+static size_t turn_back(const struct strings *x, size_t p)
+{
+    size_t q = p == 0 ? p : mate(x, 1, p - 1);
+
+    return q < p ? q + 1 : 0;
+}
+
+#define PLACE_CALL(name, answer)                                                              \
+    static uint8_t name(const uint8_t *map, size_t length, size_t place, uint16_t *out)       \
+    {                                                                                         \
+        struct strings x;                                                                     \
+        uint8_t status = refuse(map, length, &x);                                             \
+        size_t p = place - 1;                                                                 \
+        if (status == 0 && (place == 0 || place > x.places))                                  \
+            status = 13;                                                                      \
+        if (status == 0)                                                                      \
+            *out = (uint16_t)(answer);                                                        \
+        return status;                                                                        \
+    }
+
+PLACE_CALL(cross, mate(&x, bit(x.a, p), p) + 1)
+PLACE_CALL(turn_call, turn(&x, p))
+PLACE_CALL(turn_back_call, turn_back(&x, p))
+PLACE_CALL(along, step(&x, 0, p) + 1)
+PLACE_CALL(point, number(&x, 1, p))
+PLACE_CALL(area, number(&x, 0, p))
+
+#define CELL_CALL(name, v, cells, refusal, answer)                                            \
+    static uint8_t name(const uint8_t *map, size_t length, size_t k, uint16_t *out)           \
+    {                                                                                         \
+        struct strings x;                                                                     \
+        uint8_t status = refuse(map, length, &x);                                             \
+        if (status == 0 && (k == 0 || k > (cells)))                                           \
+            status = refusal;                                                                 \
+        if (status == 0)                                                                      \
+            *out = (uint16_t)(x.m == 0 ? 0 : (answer));                                       \
+        return status;                                                                        \
+    }
+
+CELL_CALL(point_first, 1, x.n, 14, first(&x, 1, k) + 1)
+CELL_CALL(degree, 1, x.n, 14, size(&x, 1, k))
+CELL_CALL(area_first, 0, x.m - x.n + 2, 15, first(&x, 0, k) + 1)
+CELL_CALL(sides, 0, x.m - x.n + 2, 15, size(&x, 0, k))
+
+static uint8_t joining(const uint8_t *map, size_t length, size_t u, size_t v, uint16_t *out)
+{
+    struct strings x;
+    uint8_t status = refuse(map, length, &x);
+    size_t p, left;
+
+    if (status != 0)
+        return status;
+    if (u == 0 || u > x.n || v == 0 || v > x.n)
+        return 14;
+    *out = 0;
+    if (x.m == 0)
+        return 0;
+    p = first(&x, 1, u);
+    for (left = size(&x, 1, u); left > 0; left--) {
+        if (number(&x, 1, mate(&x, bit(x.a, p), p)) == v) {
+            *out = (uint16_t)(p + 1);
+            break;
+        }
+        p = step(&x, 1, p);
+    }
+    return 0;
+}
+
+const struct calls bitwise_calls = {
+    "bit by bit", open, { cross, turn_call, turn_back_call, along, point, area, point_first, degree, area_first, sides, sides }, joining
+};

@@ -1,0 +1,38 @@
+/* One interface for all that is compared: the calls of include/pmap.h, by whoever answers them. */
+#ifndef CALLS_H
+#define CALLS_H
+
+#include <stddef.h>
+#include <stdint.h>
+
+#ifdef __cplusplus
+extern "C" {
+#endif
+
+typedef uint8_t open_call(const uint8_t *map, size_t length, uint16_t *m, uint16_t *n);
+typedef uint8_t number_call(const uint8_t *map, size_t length, size_t number, uint16_t *out);
+typedef uint8_t joining_call(const uint8_t *map, size_t length, size_t u, size_t v, uint16_t *out);
+
+enum { NUMBER_CALLS = 11 };
+
+/* number[] in this order: cross, turn, turn back, along, point, area; point first, degree; area first, sides, neighbours */
+struct calls {
+    const char *name;
+    open_call *open;
+    number_call *number[NUMBER_CALLS];
+    joining_call *joining;
+};
+
+extern const struct calls bitwise_calls;   /* bit by bit, from the bytes */
+extern const struct calls halfedge_calls;  /* arrays of half-edges, built from the bytes at each call */
+extern const struct calls succinct_calls;  /* sdsl's rank, select and parentheses, built from the bytes at each call */
+
+/* Checks 1 to 7 and the map, in a plain way: the status and pair as pmap_pack gives them. */
+uint32_t plain_pack(const uint16_t *turning, size_t turning_length, const uint8_t *marks, size_t marks_length, size_t start,
+                    uint16_t *work, size_t work_length, uint8_t *out, size_t out_length, uint16_t *length);
+
+#ifdef __cplusplus
+}
+#endif
+
+#endif

@@ -1,0 +1,178 @@
+/* (b) The same checks, then plain arrays of half-edges built from the bytes, then the answer by looking it up. */
+#include "calls.h"
+
+enum { MOST = 4096 };
+
+struct arrays {
+    size_t places, m, n;
+    uint16_t mate[MOST], step[2][MOST], cell[2][MOST]; /* [1] round: points; [0] square: areas */
+    uint16_t first[2][MOST], size[2][MOST];
+    uint8_t round[MOST], closing[MOST];
+};
+
+static int bit(const uint8_t *s, size_t i)
+{
+    return s[i / 8] >> (i % 8) & 1;
+}
+
+/* Checks 8 to 12 and all arrays, in one reading of the strings. */
+static uint8_t build(const uint8_t *map, size_t length, struct arrays *x)
+{
+    uint16_t stack[2][MOST / 2 + 1], opened[2][MOST / 2 + 1];
+    size_t bits[2], depth[2] = { 0, 0 }, at[2] = { 0, 0 }, found[2] = { 1, 1 }, bytes_a, bytes_b, p, i;
+    const uint8_t *a, *b[2];
+    size_t ones = 0;
+
+    if (length < 4)
+        return 8;
+    x->m = map[0] + 256u * map[1];
+    x->n = map[2] + 256u * map[3];
+    if (x->m > 2048 || x->n < 1 || x->n > x->m + 1)
+        return 8;
+    x->places = 2 * x->m;
+    bits[1] = 2 * x->n - 2;
+    bits[0] = 2 * (x->m + 1 - x->n);
+    bytes_a = (x->places + 7) / 8;
+    bytes_b = (bits[1] + 7) / 8;
+    if (length != 4 + bytes_a + bytes_b + (bits[0] + 7) / 8)
+        return 9;
+    a = map + 4;
+    b[1] = a + bytes_a;
+    b[0] = b[1] + bytes_b;
+    for (i = x->places; i % 8 != 0; i++)
+        if (bit(a, i))
+            return 10;
+    for (p = 0; p < 2; p++)
+        for (i = bits[1 - p]; i % 8 != 0; i++)
+            if (bit(b[1 - p], i))
+                return 10;
+    for (p = 0; p < x->places; p++)
+        ones += (size_t)bit(a, p);
+    if (ones != bits[1])
+        return 11;
+    stack[0][0] = stack[1][0] = 1;
+    x->first[0][1] = x->first[1][1] = 0;
+    x->size[0][1] = x->size[1][1] = 0;
+    for (p = 0; p < x->places; p++) {
+        int v = bit(a, p), closing = bit(b[v], at[v]++), w;
+        x->round[p] = (uint8_t)v;
+        x->closing[p] = (uint8_t)closing;
+        for (w = 0; w < 2; w++) {
+            uint16_t k = stack[w][depth[w]];
+            x->cell[w][p] = k;
+            x->size[w][k]++;
+        }
+        x->step[1 - v][p] = (uint16_t)(p + 1 == x->places ? 0 : p + 1);
+        if (!closing) {
+            depth[v]++;
+            opened[v][depth[v]] = (uint16_t)p;
+            stack[v][depth[v]] = (uint16_t)++found[v];
+            x->first[v][found[v]] = (uint16_t)(p + 1);
+            x->size[v][found[v]] = 0;
+        } else {
+            uint16_t q;
+            if (depth[v] == 0)
+                return 12;
+            q = opened[v][depth[v]--];
+            x->mate[p] = q;
+            x->mate[q] = (uint16_t)p;
+            x->step[v][p] = (uint16_t)(q + 1);
+            x->step[v][q] = (uint16_t)(p + 1 == x->places ? 0 : p + 1);
+        }
+    }
+    return depth[0] == 0 && depth[1] == 0 ? 0 : 12;
+}
+
+static uint8_t open(const uint8_t *map, size_t length, uint16_t *m, uint16_t *n)
+{
+    struct arrays x;
+    uint8_t status = build(map, length, &x);
+
+    if (status == 0) {
+        *m = (uint16_t)x.m;
+        *n = (uint16_t)x.n;
+    }
+    return status;
+}
+
+static size_t turn(const struct arrays *x, size_t p)
+{
+    size_t q = x->round[p] ? x->mate[p] : p;
+
+    return q < p || q + 1 == x->places ? 0 : q + 2;
+}
+
+static size_t turn_back(const struct arrays *x, size_t p)
+{
+    size_t q;
+
+    if (p == 0)
+        return 0;
+    q = x->round[p - 1] ? x->mate[p - 1] : p - 1;
+    return q < p ? q + 1 : 0;
+}
+
+#define PLACE_CALL(name, answer)                                                              \
+    static uint8_t name(const uint8_t *map, size_t length, size_t place, uint16_t *out)       \
+    {                                                                                         \
+        struct arrays x;                                                                      \
+        uint8_t status = build(map, length, &x);                                              \
+        size_t p = place - 1;                                                                 \
+        if (status == 0 && (place == 0 || place > x.places))                                  \
+            status = 13;                                                                      \
+        if (status == 0)                                                                      \
+            *out = (uint16_t)(answer);                                                        \
+        return status;                                                                        \
+    }
+
+PLACE_CALL(cross, x.mate[p] + 1)
+PLACE_CALL(turn_call, turn(&x, p))
+PLACE_CALL(turn_back_call, turn_back(&x, p))
+PLACE_CALL(along, x.step[0][p] + 1)
+PLACE_CALL(point, x.cell[1][p])
+PLACE_CALL(area, x.cell[0][p])
+
+#define CELL_CALL(name, cells, refusal, answer)                                               \
+    static uint8_t name(const uint8_t *map, size_t length, size_t k, uint16_t *out)           \
+    {                                                                                         \
+        struct arrays x;                                                                      \
+        uint8_t status = build(map, length, &x);                                              \
+        if (status == 0 && (k == 0 || k > (cells)))                                           \
+            status = refusal;                                                                 \
+        if (status == 0)                                                                      \
+            *out = (uint16_t)(x.m == 0 ? 0 : (answer));                                       \
+        return status;                                                                        \
+    }
+
+CELL_CALL(point_first, x.n, 14, x.first[1][k] + 1)
+CELL_CALL(degree, x.n, 14, x.size[1][k])
+CELL_CALL(area_first, x.m - x.n + 2, 15, x.first[0][k] + 1)
+CELL_CALL(sides, x.m - x.n + 2, 15, x.size[0][k])
+
+static uint8_t joining(const uint8_t *map, size_t length, size_t u, size_t v, uint16_t *out)
+{
+    struct arrays x;
+    uint8_t status = build(map, length, &x);
+    size_t p, left;
+
+    if (status != 0)
+        return status;
+    if (u == 0 || u > x.n || v == 0 || v > x.n)
+        return 14;
+    *out = 0;
+    if (x.m == 0)
+        return 0;
+    p = x.first[1][u];
+    for (left = x.size[1][u]; left > 0; left--) {
+        if (x.cell[1][x.mate[p]] == v) {
+            *out = (uint16_t)(p + 1);
+            break;
+        }
+        p = x.step[1][p];
+    }
+    return 0;
+}
+
+const struct calls halfedge_calls = {
+    "half-edges", open, { cross, turn_call, turn_back_call, along, point, area, point_first, degree, area_first, sides, sides }, joining
+};

@@ -1,0 +1,3 @@
+-- First places and counts of points and areas: the laws.
+pub mod Firsts
+pub mod Counted

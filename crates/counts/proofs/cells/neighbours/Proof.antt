@@ -1,0 +1,15 @@
+-- `counts::cells::neighbours` meets its contract. Assumes nothing.
+use Rattle.format.specs.Calls.{neighboursOf}
+use borrow.Author.Needs.{needs}
+use Rattle.counts.proofs.cells.neighbours.Statement.{statement}
+use Rattle.counts.proofs.cells.neighbours.Tie as tie
+
+sides-requires : tie.Need-sides-requires
+sides-requires c κs = search needs
+
+returns : tie.Need-returns
+unfolding neighboursOf
+returns c = search
+
+pub neighbours-spec : {M : Type 1} → statement M
+neighbours-spec = tie.close (tie.spec sides-requires returns)

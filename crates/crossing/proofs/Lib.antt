@@ -1,0 +1,4 @@
+-- Check 7: the laws.
+pub mod Nests
+pub mod Climb
+pub mod Stack

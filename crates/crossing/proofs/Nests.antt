@@ -1,0 +1,257 @@
+-- Why a stack finds two borders that alternate.
+--
+-- two-places       == a border has two places
+-- Open ms t p q    == q is the one place before p of an unmarked border
+-- Stacked ms n t p k st == the places open at p stand on the stack st of k, the latest on top, and whatever closed before p was on top
+-- stacked-start, stacked-skip, stacked-push, stacked-pop == from one position to the next
+-- stacked-none     == at the end no two unmarked borders alternate
+-- stacked-open     == the first place of a border that closes is open, and so on the stack
+-- stacked-crosses  == a border that closes and is not on top alternates with the one above it
+-- Assumes nothing.
+use mathlib.Core.Path.{_≡_, refl, sym, ap, _∙_}
+use mathlib.Core.Logic.{_≢_, inl, inr}
+use mathlib.Core.List.{List}
+use Prim.Native.Nat.{ℕ, _+_, _<_, _≤_}
+use native.Mathlib.Omega.{arith}
+use lib.ListN.{getD}
+use Rattle.count.proofs.Logic.{same-or-not, lt-or-ge}
+use Rattle.count.proofs.Below.{injective-onto}
+use Rattle.orbits.specs.Cycles.{Permutes}
+use Rattle.drawing.specs.Drawing.{border, other}
+use Rattle.drawing.proofs.Ends.{other-below, other-border, other-moves, border-two}
+use Rattle.touring.specs.Working.{Crosses}
+
+pub two-places : (n : ℕ) (t : ℕ → ℕ) → Permutes n t → (f g h : ℕ) → f < n → g < n → h < n
+    → border (t f) ≡ border (t h) → border (t g) ≡ border (t h) → f ≢ h → g ≢ h → f ≡ g
+two-places n t P f g h bf bg bh p q d e =
+    elim (border-two (t f) (t h) p) [
+      | inl a ↦ absurd (d (P .injective f h bf bh a))
+      | inr a ↦
+          elim (border-two (t g) (t h) q) [
+            | inl b ↦ absurd (e (P .injective g h bg bh b))
+            | inr b ↦ P .injective f g bf bg (a ∙ sym b)
+          ]
+    ]
+
+pub record Open (ms : List ℕ) (t : ℕ → ℕ) (p q : ℕ) : Type 0 where
+  pub before : q < p
+  pub unmarked : getD ms (border (t q)) 0 ≢ 1
+  pub only : (r : ℕ) → r < p → border (t r) ≡ border (t q) → r ≡ q
+
+pub record Stacked (ms : List ℕ) (n : ℕ) (t : ℕ → ℕ) (p k : ℕ) (st : ℕ → ℕ) : Type 0 where
+  pub within : p ≤ n
+  pub fits : k ≤ p
+  pub opened : (i : ℕ) → i < k → Open ms t p (st i)
+  pub rising : (i j : ℕ) → i < j → j < k → st i < st j
+  pub holds : (q : ℕ) → Open ms t p q → (i : ℕ) × (i < k) × (st i ≡ q)
+  pub nests : (x y z : ℕ) → x < y → y < z → z < p → border (t x) ≡ border (t z) → getD ms (border (t x)) 0 ≢ 1 → Open ms t z y → ⊥
+
+module _ (ms : List ℕ) (n : ℕ) (t : ℕ → ℕ) where
+  -- a place that is open stays so past a position of another border
+  open-more : (p q : ℕ) → Open ms t p q → border (t p) ≢ border (t q) → Open ms t (p + 1) q
+  open-more p q O d =
+      record {
+        before = omega (arith, O .before);
+        unmarked = O .unmarked;
+        only = λ r l e. elim (same-or-not r p) [
+          | inl s ↦ absurd (d (ap (λ x. border (t x)) (sym s) ∙ e))
+          | inr s ↦ O .only r (omega arith) e
+        ];
+      }
+
+  open-less : (p q : ℕ) → Open ms t (p + 1) q → q ≢ p → Open ms t p q
+  open-less p q O d =
+      record { before = omega (arith, O .before); unmarked = O .unmarked; only = λ r l e. O .only r (omega arith) e }
+
+  pub stacked-start : (st : ℕ → ℕ) → Stacked ms n t 0 0 st
+  stacked-start st =
+      record {
+        within = omega arith;
+        fits = omega arith;
+        opened = λ i l. absurd (omega arith);
+        rising = λ i j h l. absurd (omega arith);
+        holds = λ q O. absurd (omega (arith, O .before));
+        nests = λ x y z h k l e u O. omega arith;
+      }
+
+  module _ (p k : ℕ) (st : ℕ → ℕ) (S : Stacked ms n t p k st) (l : p < n) where
+    pub stacked-skip : (st' : ℕ → ℕ) → ((i : ℕ) → i < k → st' i ≡ st i) → getD ms (border (t p)) 0 ≡ 1 → Stacked ms n t (p + 1) k st'
+    stacked-skip st' same m =
+        -- the marked border is none of the unmarked ones
+        let apart : (q : ℕ) → getD ms (border (t q)) 0 ≢ 1 → border (t p) ≢ border (t q)
+        = λ q u e. u (ap (λ x. getD ms x 0) (sym e) ∙ m) in
+        record {
+          within = omega arith;
+          fits = omega (arith, S .fits);
+          opened = λ i h. rw (same i h) (open-more p (st i) (S .opened i h) (apart (st i) (S .opened i h .unmarked)));
+          rising = λ i j h b. omega (arith, S .rising i j h b, same i (omega arith), same j b);
+          holds = λ q O.
+              elim (same-or-not q p) [
+                | inl e ↦ absurd (O .unmarked (ap (λ x. getD ms (border (t x)) 0) e ∙ m))
+                | inr d ↦ let r = S .holds q (open-less p q O d) in (r .0, r .1, same (r .0) (r .1) ∙ r .2)
+              ];
+          nests = λ x y z h b c e u O.
+              elim (same-or-not z p) [
+                | inl s ↦ apart x u (ap (λ i. border (t i)) (sym s) ∙ sym e)
+                | inr d ↦ S .nests x y z h b (omega arith) e u O
+              ];
+        }
+
+    module _ (u : getD ms (border (t p)) 0 ≢ 1) where
+      pub stacked-push : (st' : ℕ → ℕ) → ((i : ℕ) → i < k → st' i ≡ st i) → st' k ≡ p
+          → ((r : ℕ) → r < p → border (t r) ≢ border (t p)) → Stacked ms n t (p + 1) (k + 1) st'
+      stacked-push st' same top first =
+          record {
+            within = omega arith;
+            fits = omega (arith, S .fits);
+            opened = λ i h.
+                elim (same-or-not i k) [
+                  | inl e ↦
+                      rw (e, top)
+                      (record {
+                        before = omega arith;
+                        unmarked = u;
+                        only = λ r b q. elim (same-or-not r p) [ inl s ↦ s | inr d ↦ absurd (first r (omega arith) q) ];
+                      })
+                  | inr d ↦
+                      let b : i < k = omega arith in
+                      let O = S .opened i b in
+                      rw (same i b) (open-more p (st i) O (λ e. first (st i) (O .before) (sym e)))
+                ];
+            rising = λ i j h b.
+                let bi : i < k = omega arith in
+                elim (same-or-not j k) [
+                  | inl e ↦ rw (e, top) (omega (arith, S .opened i bi .before, same i bi))
+                  | inr d ↦ let bj : j < k = omega arith in omega (arith, S .rising i j h bj, same i bi, same j bj)
+                ];
+            holds = λ q O.
+                elim (same-or-not q p) [
+                  | inl e ↦ (k, omega arith, top ∙ sym e)
+                  | inr d ↦
+                      let r = S .holds q (open-less p q O d) in
+                      (r .0, omega (arith, r .1), same (r .0) (r .1) ∙ r .2)
+                ];
+            nests = λ x y z h b c e v O.
+                elim (same-or-not z p) [
+                  | inl s ↦ first x (omega arith) (e ∙ ap (λ i. border (t i)) s)
+                  | inr d ↦ S .nests x y z h b (omega arith) e v O
+                ];
+          }
+
+      module _ (j : ℕ) (jk : k ≡ j + 1) where
+        pub stacked-pop : (st' : ℕ → ℕ) → ((i : ℕ) → i < k → st' i ≡ st i) → border (t (st j)) ≡ border (t p) → Stacked ms n t (p + 1) j st'
+        stacked-pop st' same top =
+            let bj : j < k = omega arith in
+            let T = S .opened j bj in
+            record {
+              within = omega arith;
+              fits = omega (arith, S .fits);
+              opened = λ i h.
+                  let bi : i < k = omega arith in
+                  let O = S .opened i bi in
+                  rw (same i bi)
+                  (open-more p (st i) O
+                  (λ e. let q : st j ≡ st i = O .only (st j) (T .before) (top ∙ e) in omega (arith, S .rising i j h bj)));
+              rising = λ i q h b.
+                  let bi : i < k = omega arith in
+                  let bq : q < k = omega arith in
+                  omega (arith, S .rising i q h bq, same i bi, same q bq);
+              holds = λ q O.
+                  elim (same-or-not q p) [
+                    | inl e ↦
+                        let s : st j ≡ q = O .only (st j) (omega (arith, T .before)) (top ∙ ap (λ x. border (t x)) (sym e)) in
+                        absurd (omega (arith, T .before))
+                    | inr d ↦
+                        let r = S .holds q (open-less p q O d) in
+                        elim (same-or-not (r .0) j) [
+                          | inl e ↦
+                              let s : st j ≡ q = ap st (sym e) ∙ r .2 in
+                              absurd (d (sym (O .only p (omega arith) (sym top ∙ ap (λ x. border (t x)) s))))
+                          | inr f ↦ (r .0, omega (arith, r .1), same (r .0) (r .1) ∙ r .2)
+                        ]
+                  ];
+              nests = λ x y z h b c e v O.
+                  elim (same-or-not z p) [
+                    | inl s ↦
+                        let q : ℕ = st j in
+                        let O' : Open ms t p y = rw s at O in
+                        let r = S .holds y O' in
+                        let a : x ≡ st j = T .only x (omega arith) (e ∙ ap (λ i. border (t i)) s ∙ sym top) in
+                        elim (same-or-not (r .0) j) [
+                          | inl f ↦ let w : st j ≡ y = ap st (sym f) ∙ r .2 in omega arith
+                          | inr f ↦ omega (arith, S .rising (r .0) j (omega (arith, r .1)) bj, r .2)
+                        ]
+                    | inr d ↦ S .nests x y z h b (omega arith) e v O
+                  ];
+            }
+
+  module _ (P : Permutes n t) (p k : ℕ) (st : ℕ → ℕ) (S : Stacked ms n t p k st) where
+    pub stacked-none : n ≤ p → (a b : ℕ) → Crosses ms n t a b → ⊥
+    stacked-none l a b X =
+        let s : ℕ = X .s in
+        S .nests (X .p) (X .q) (X .r) (X .p-q) (X .q-r) (omega (arith, X .r-s, X .s-end)) (X .at-p ∙ sym (X .at-r))
+        (λ e. X .first-unmarked (ap (λ i. getD ms i 0) (sym (X .at-p)) ∙ e))
+        (record {
+          before = X .q-r;
+          unmarked = λ e. X .second-unmarked (ap (λ i. getD ms i 0) (sym (X .at-q)) ∙ e);
+          only = λ r h e.
+              two-places n t P r (X .q) (X .s) (omega (arith, X .r-s, X .s-end)) (omega (arith, X .q-r, X .r-s, X .s-end)) (X .s-end)
+              (e ∙ X .at-q ∙ sym (X .at-s))
+              (X .at-q ∙ sym (X .at-s))
+              (omega (arith, X .r-s))
+              (omega (arith, X .q-r, X .r-s));
+        })
+
+    module _ (l : p < n) (u : getD ms (border (t p)) 0 ≢ 1) (q : ℕ) (h : q < p) (e : border (t q) ≡ border (t p)) where
+      pub stacked-open : Open ms t p q
+      stacked-open =
+          record {
+            before = h;
+            unmarked = λ m. u (ap (λ i. getD ms i 0) (sym e) ∙ m);
+            only = λ r b f. two-places n t P r q p (omega arith) (omega arith) l (f ∙ e) e (omega arith) (omega arith);
+          }
+
+      pub stacked-there : (i : ℕ) × (i < k) × (st i ≡ q)
+      stacked-there = S .holds q stacked-open
+
+    pub stacked-crosses : (m : ℕ) → n ≡ m + m → p < n → getD ms (border (t p)) 0 ≢ 1 → (i : ℕ) → i + 1 < k → border (t (st i)) ≡ border (t p)
+        → Crosses ms n t (border (t p)) (border (t (st (i + 1))))
+    stacked-crosses m even l u i b e =
+        let bi : i < k = omega arith in
+        let q : ℕ = st i in
+        let y : ℕ = st (i + 1) in
+        let O : Open ms t p q = S .opened i bi in
+        let Y : Open ms t p y = S .opened (i + 1) b in
+        let up : q < y = S .rising i (i + 1) (omega arith) b in
+        let by : y < n = omega (arith, Y .before) in
+        -- they are two borders
+        let two : border (t p) ≢ border (t y)
+        = λ f. (let s : y ≡ q = O .only y (Y .before) (sym f ∙ sym e) in omega arith) in
+        -- the other place of the border above
+        let other-there : other (t y) < n = rw even (other-double m (t y) (rw even at (P .below y by))) in
+        let s = injective-onto t n (P .below) (P .injective) (other (t y)) other-there in
+        let same : border (t (s .0)) ≡ border (t y) = ap border (s .2) ∙ other-border (t y) in
+        let away : s .0 ≢ y = λ f. other-moves (t y) (sym (s .2) ∙ ap t f) in
+        let late : p ≤ s .0 =
+        elim (lt-or-ge (s .0) p) [ inl h ↦ absurd (away (Y .only (s .0) h same)) | inr g ↦ g ] in
+        let not-here : s .0 ≢ p = λ f. two (ap (λ x. border (t x)) (sym f) ∙ same) in
+        record {
+          two = two;
+          first-unmarked = u;
+          second-unmarked = Y .unmarked;
+          p = q;
+          q = y;
+          r = p;
+          s = s .0;
+          p-q = up;
+          q-r = Y .before;
+          r-s = omega arith;
+          s-end = s .1;
+          at-p = e;
+          at-q = refl;
+          at-r = refl;
+          at-s = same;
+        }
+      where
+        other-double : (m h : ℕ) → h < m + m → other h < m + m
+        other-double m h b = omega (arith, other-below m h (omega arith))

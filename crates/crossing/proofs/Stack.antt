@@ -1,0 +1,212 @@
+-- The stack in the working list, from one position of the tour to the next.
+--
+-- Nesting ms old p k w  == w is the chart `old` but for its last third, whose first k entries are the stack at position p
+-- nesting-..            == what is in range there, from one position to the next, and what is found
+-- Assumes nothing.
+use mathlib.Core.Path.{_≡_, refl, sym, ap, _∙_}
+use mathlib.Core.Logic.{_≢_, inl, inr}
+use mathlib.Core.Bool.{Bool, true}
+use mathlib.Core.List.{List}
+use Prim.Native.Nat.{ℕ, _+_, _-_, _*_, _<_, _≤_}
+use native.Mathlib.Omega.{arith}
+use borrow.Author.Needs.{needs}
+use borrow.Author.Tests.{lt-ltb, le-ltb, eq-eqb, eqb-true}
+use lib.Dec.{eqb}
+use lib.ListN.{length, getD, set}
+use lib.Seq.{getD-set-same, getD-set-other}
+use mir.Syntax.{w16, w64}
+use mir.Val.{Fits}
+use Rattle.count.specs.Below.{any, pick}
+use Rattle.count.proofs.Logic.{lt-or-ge, true-or-false}
+use Rattle.count.proofs.Below.{any-has, any-from}
+use Rattle.drawing.specs.Drawing.{border}
+use Rattle.drawing.proofs.Ends.{border-below}
+use Rattle.crossing.specs.declared.find.Found.{Found}
+use Rattle.crossing.specs.declared.find.Found.the-variants as the-case
+use Rattle.touring.specs.Working.{Outside, Charted, Crosses, endIn, borderIn, met}
+use Rattle.crossing.specs.Finding.{Finds, Stands, Above, placeIn, smallerFirst}
+use Rattle.touring.proofs.Outside.{outside-none, outside-set}
+use Rattle.crossing.proofs.Nests.{Stacked, stacked-start, stacked-skip, stacked-push, stacked-pop, stacked-none, stacked-there, stacked-crosses}
+
+-- ---- find_crossing
+abbrev pub double : List ℕ → ℕ
+double ms = 2 * length ms
+
+pub record Nesting (ms old : List ℕ) (p k : ℕ) (w : List ℕ) : Type 0 where
+  pub outside : Outside (2 * double ms) (3 * double ms) old w
+  pub stack : Stacked ms (double ms) (endIn old) p k (placeIn (double ms) w)
+
+module _ (ms old : List ℕ) (C : Charted (double ms) old) where
+  pub nesting-start : Nesting ms old 0 0 old
+  nesting-start =
+      record {
+        outside = outside-none (2 * double ms) (3 * double ms) old;
+        stack = stacked-start ms (double ms) (endIn old) (placeIn (double ms) old);
+      }
+
+  module _ (p k : ℕ) (w : List ℕ) (N : Nesting ms old p k w) where
+    abbrev n : ℕ
+    n = double ms
+
+    pub nesting-length : length w ≡ length old
+    nesting-length = N .outside .same-length
+
+    pub nesting-outside : Outside (2 * double ms) (3 * double ms) old w
+    nesting-outside = N .outside
+
+    pub nesting-none : n ≤ p → (a b : ℕ) → Crosses ms n (endIn old) a b → ⊥
+    nesting-none l = stacked-none ms n (endIn old) (C .once) p k (placeIn n w) (N .stack) l
+
+    -- what is read of the first two thirds is as it was
+    same-read : (i : ℕ) → i < 2 * n → getD w i 0 ≡ getD old i 0
+    same-read i l = N .outside .before i l
+
+    place-below : (i : ℕ) → i < k → placeIn n w i < p
+    place-below i l = N .stack .opened i l .before
+
+    same-border : (i : ℕ) → i < k → borderIn w (placeIn n w i) ≡ border (endIn old (placeIn n w i))
+    same-border i l = ap border (same-read (placeIn n w i) (omega (arith, place-below i l, N .stack .within)))
+
+    pub nesting-place : (i : ℕ) → i < k → placeIn n w i < length w
+    nesting-place i l = omega (arith, place-below i l, N .stack .within, C .room, nesting-length)
+
+    module _ (l : p < n) where
+      pub nesting-here : p < length w
+      nesting-here = omega (arith, C .room, nesting-length)
+
+      pub nesting-flag : n + p < length w
+      nesting-flag = omega (arith, C .room, nesting-length)
+
+      pub nesting-top : 2 * n + k < length w
+      nesting-top = omega (arith, C .room, nesting-length, N .stack .fits)
+
+      pub nesting-sum : Fits w64 (n + p)
+      nesting-sum = record { fits = omega (arith, C .small) }
+
+      pub nesting-scaled : Fits w64 ((n + p) * 2)
+      nesting-scaled = record { fits = omega (arith, C .small) }
+
+      pub nesting-top-sum : Fits w64 (2 * n + k)
+      nesting-top-sum = record { fits = omega (arith, C .small, N .stack .fits) }
+
+      pub nesting-top-scaled : Fits w64 ((2 * n + k) * 2)
+      nesting-top-scaled = record { fits = omega (arith, C .small, N .stack .fits) }
+
+      pub nesting-narrow : Fits w16 p
+      nesting-narrow = record { fits = omega (arith, C .small) }
+
+      pub nesting-height : Fits w64 (k + 1)
+      nesting-height = record { fits = omega (arith, C .small, N .stack .fits) }
+
+      module _ (e : ℕ) (q : e ≡ borderIn w p) where
+        is-border : e ≡ border (endIn old p)
+        is-border = q ∙ ap border (same-read p (omega arith))
+
+        pub nesting-border : e < length ms
+        nesting-border = rw is-border (border-below (length ms) (endIn old p) (C .once .below p l))
+
+        pub nesting-skip : (getD ms e 0 ≡ 1) → (j : ℕ) (v : List ℕ) → j ≡ k → v ≡ w → Nesting ms old (p + 1) j v
+        nesting-skip m j v f g =
+            rw (f, g)
+            (record {
+              outside = N .outside;
+              stack =
+                  stacked-skip ms n (endIn old) p k (placeIn n w) (N .stack) l (placeIn n w) (λ i h. refl)
+                  (ap (λ x. getD ms x 0) (sym is-border) ∙ m);
+            })
+
+        module _ (u : getD ms e 0 ≡ 1 → ⊥) where
+          unmarked-here : getD ms (border (endIn old p)) 0 ≢ 1
+          unmarked-here m = u (ap (λ x. getD ms x 0) is-border ∙ m)
+
+          pub nesting-push : getD w (n + p) 0 ≡ 0 → (j : ℕ) (v : List ℕ) → j ≡ k + 1 → v ≡ set w (2 * n + k) p → Nesting ms old (p + 1) j v
+          unfolding met
+          nesting-push z j v f g =
+              let b : 2 * n + k < 3 * n = omega (arith, N .stack .fits) in
+              rw (f, g)
+              (record {
+                outside = outside-set (2 * n) (3 * n) old w (2 * n + k) p (N .outside) (omega arith) b;
+                stack =
+                    stacked-push ms n (endIn old) p k (placeIn n w) (N .stack) l unmarked-here (placeIn n (set w (2 * n + k) p))
+                    (λ i h. getD-set-other w (2 * n + k) (2 * n + i) p 0 (omega arith))
+                    (getD-set-same w (2 * n + k) p 0 nesting-top)
+                    (λ r h s.
+                    let P : ℕ → Bool = λ x. eqb (border (endIn old x)) (border (endIn old p)) in
+                    let t : any P p ≡ true = any-from P p r h (eq-eqb (border (endIn old r)) (border (endIn old p)) s) in
+                    let o : getD old (n + p) 0 ≡ 1 = C .second p l ∙ ap (λ x. pick x 1 0) t in
+                    omega (arith, same-read (n + p) (omega arith)));
+              })
+
+          module _ (z : getD w (n + p) 0 ≡ 0 → ⊥) where
+            -- the border was met before
+            first-place : (q : ℕ) × (q < p) × (border (endIn old q) ≡ border (endIn old p))
+            unfolding met
+            first-place =
+                let P : ℕ → Bool = λ x. eqb (border (endIn old x)) (border (endIn old p)) in
+                elim (true-or-false (any P p)) [
+                  | inl t ↦
+                      let r = any-has P p t in
+                      (r .0, r .1, eqb-true (border (endIn old (r .0))) (border (endIn old p)) (r .2))
+                  | inr f ↦ absurd (z (same-read (n + p) (omega arith) ∙ C .second p l ∙ ap (λ x. pick x 1 0) f))
+                ]
+
+            on-stack : (i : ℕ) × (i < k) × (placeIn n w i ≡ first-place .0)
+            on-stack =
+                stacked-there ms n (endIn old) (C .once) p k (placeIn n w) (N .stack) l unmarked-here (first-place .0) (first-place .1) (first-place .2)
+
+            pub nesting-some : 1 ≤ k
+            nesting-some = omega (arith, on-stack .1)
+
+            pub nesting-last : 2 * n + (k - 1) < length w
+            nesting-last = omega (arith, nesting-top)
+
+            pub nesting-last-place : getD w (2 * n + (k - 1)) 0 < length w
+            nesting-last-place = nesting-place (k - 1) (omega (arith, on-stack .1))
+
+            module _ (r : ℕ) (h : r ≡ borderIn w (getD w (2 * n + (k - 1)) 0)) where
+              last : k - 1 < k
+              last = omega (arith, on-stack .1)
+
+              pub nesting-pop : r ≡ e → (j : ℕ) (v : List ℕ) → j ≡ k - 1 → v ≡ w → Nesting ms old (p + 1) j v
+              nesting-pop s j v f g =
+                  rw (f, g)
+                  (record {
+                    outside = N .outside;
+                    stack =
+                        stacked-pop ms n (endIn old) p k (placeIn n w) (N .stack) l unmarked-here (k - 1) (omega (arith, on-stack .1))
+                        (placeIn n w) (λ i b. refl) (sym (same-border (k - 1) last) ∙ sym h ∙ s ∙ is-border);
+                  })
+
+              module _ (d : r ≡ e → ⊥) where
+                pub nesting-stands : Stands n k e w
+                nesting-stands =
+                    let i : ℕ = on-stack .0 in
+                    let at-i : borderIn w (placeIn n w i) ≡ e
+                    = same-border i (on-stack .1) ∙ ap (λ x. border (endIn old x)) (on-stack .2) ∙ first-place .2 ∙ sym is-border in
+                    let not-last : i ≢ k - 1 = λ s. d (h ∙ ap (λ x. borderIn w (placeIn n w x)) (sym s) ∙ at-i) in
+                    record {
+                      room = omega (arith, nesting-top);
+                      places = nesting-place;
+                      j = i;
+                      not-top = omega (arith, on-stack .1);
+                      is-there = at-i;
+                    }
+
+                pub nesting-found : (a : ℕ) → Above n k e w a → (x : Found) → x ≡ smallerFirst e a → Finds ms n (endIn old) x
+                nesting-found a A x f =
+                    let bj : A .j < k = omega (arith, A .not-top) in
+                    let up : a ≡ border (endIn old (placeIn n w (A .j + 1))) = A .next ∙ same-border (A .j + 1) (A .not-top) in
+                    let X : Crosses ms n (endIn old) (border (endIn old p)) (border (endIn old (placeIn n w (A .j + 1))))
+                    = stacked-crosses ms n (endIn old) (C .once) p k (placeIn n w) (N .stack) (length ms) (omega arith) l unmarked-here (A .j) (A .not-top)
+                    (sym (same-border (A .j) bj) ∙ A .is-there ∙ is-border) in
+                    let Y : Crosses ms n (endIn old) e a = rw (is-border, up) X in
+                    rw f (found e a Y)
+                  where
+                    found : (e a : ℕ) → Crosses ms n (endIn old) e a → Finds ms n (endIn old) (smallerFirst e a)
+                    found e a Y =
+                        elim (lt-or-ge e a) [
+                          | inl b ↦ rw (lt-ltb e a b) (b, inl Y)
+                          | inr g ↦ let t = Y .two in rw (le-ltb e a g) (omega arith, inr Y)
+                        ]
+
+pub ruleset some-all = (nesting-some, needs)

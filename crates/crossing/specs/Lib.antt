@@ -1,0 +1,2 @@
+-- Check 7: what its contracts cite.
+pub mod Finding

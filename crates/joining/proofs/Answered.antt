@@ -1,0 +1,48 @@
+-- What the joining border answers: two tests, one number.
+--
+-- join-declines, join-no-such == 8 to 12 and 14 for u; 14 for v
+-- join-answers   == the place that the search finds
+-- Assumes nothing.
+use mathlib.Core.Path.{_≡_, refl, sym, ap, _∙_}
+use mathlib.Core.Bool.{Bool, true, false, _&&_}
+use mathlib.Core.List.{List}
+use Prim.Native.Nat.{ℕ}
+use Rattle.count.specs.Below.{pick}
+use Rattle.drawing.specs.Drawing.{Cell}
+use Rattle.drawing.specs.Session.{Answer, answer, refused}
+use Rattle.format.specs.Bytes.{sizeIn, wordIn}
+use Rattle.format.specs.Open.{opened}
+use Rattle.format.specs.Calls.{isNumber, joiningOf}
+use Rattle.calls.specs.Checks.{cellRefusal}
+use Rattle.calls.proofs.Passed.{cell-passes, cell-opens, cell-declines, cell-answers}
+use Rattle.joining.specs.Joined.{joinedIn}
+
+picked-both : (x y : Bool) (a z : Answer ℕ) → pick (x && y) a z ≡ pick x (pick y a z) z
+picked-both true y a z = refl
+picked-both false y a z = refl
+
+module _ (s : List ℕ) (u v o : ℕ) (e : o ≡ cellRefusal s Cell.point u) where
+  -- the answer once u is known to be a point, by the test of v
+  own : Bool → Answer ℕ
+  own t = pick t (answer (joinedIn s u v)) (refused 14)
+
+  join-as : opened s (pick (isNumber (sizeIn s) Cell.point u) (own (isNumber (sizeIn s) Cell.point v)) (refused 14)) ≡ joiningOf s u v
+  unfolding joiningOf wordIn own
+  join-as =
+      ap (opened s)
+      (sym (picked-both (isNumber (sizeIn s) Cell.point u) (isNumber (sizeIn s) Cell.point v) (answer (joinedIn s u v)) (refused 14)))
+
+  pub join-declines : (o ≡ 0 → ⊥) → refused o ≡ joiningOf s u v
+  join-declines m = cell-declines s Cell.point u o e (own (isNumber (sizeIn s) Cell.point v)) m ∙ join-as
+
+  join-own : (t : Bool) → o ≡ 0 → t ≡ isNumber (sizeIn s) Cell.point v → own t ≡ joiningOf s u v
+  join-own t z h = ap own h ∙ cell-answers s Cell.point u o e (own (isNumber (sizeIn s) Cell.point v)) z ∙ join-as
+
+  pub join-no-such : (t : Bool) → o ≡ 0 → t ≡ isNumber (sizeIn s) Cell.point v → t ≡ false → refused 14 ≡ joiningOf s u v
+  unfolding own
+  join-no-such t z h y = ap own (sym y) ∙ join-own t z h
+
+  pub join-answers : (t : Bool) (r : ℕ) → o ≡ 0 → t ≡ isNumber (sizeIn s) Cell.point v → t ≡ true → r ≡ joinedIn s u v
+      → answer r ≡ joiningOf s u v
+  unfolding own
+  join-answers t r z h y g = ap answer g ∙ ap own (sym y) ∙ join-own t z h

@@ -1,0 +1,34 @@
+-- `joining::search::join_at` meets its contract. Assumes nothing.
+use Rattle.joining.proofs.Joins.{join-empty, join-full}
+use borrow.Author.Needs.{needs}
+use Rattle.joining.proofs.search.join_at.Statement.{statement}
+use Rattle.joining.proofs.search.join_at.Tie as tie
+
+places-requires : tie.Need-places-requires
+places-requires c κs = search needs
+
+returns : tie.Need-returns
+returns c = search join-empty
+
+size-at-requires : tie.Need-size-at-requires
+size-at-requires c κs = search needs
+
+first-at-requires : tie.Need-first-at-requires
+first-at-requires c κs = search needs
+
+join-from-requires : tie.Need-join-from-requires
+join-from-requires c κs = search needs
+
+returns-2 : tie.Need-returns-2
+returns-2 c = search join-full
+
+pub join-at-spec : {M : Type 1} → statement M
+join-at-spec =
+    tie.close
+    (tie.spec
+    places-requires
+    returns
+    size-at-requires
+    first-at-requires
+    join-from-requires
+    returns-2)

@@ -1,0 +1,2 @@
+-- The layout of a packed map: the laws.
+pub mod Offsets

@@ -1,0 +1,2 @@
+-- The limits tried: the laws.
+mod Filling

@@ -1,0 +1,3 @@
+-- Check 5: the laws.
+pub mod Queue
+pub mod Reach

@@ -1,0 +1,2 @@
+-- Check 5: what its contracts cite.
+pub mod Queue

@@ -1,0 +1,3 @@
+-- The listing of a map: definitions.
+pub mod Printed
+pub mod Writing

@@ -1,0 +1,45 @@
+// The whole text: a listing, or the line of a refusal.
+use crate::lines::put_lines;
+use crate::write::put_number;
+use crate::write::put_text;
+ghost use mathlib.Core.Path.{_≡_};
+ghost use Prim.Native.Nat.{_≤_};
+ghost use lib.ListN.{length};
+ghost use Rattle.drawing.specs.Laid.{laid};
+ghost use Rattle.format.specs.Open.{openRefusal};
+ghost use Rattle.text.specs.Listing.{listing, refusedLine};
+ghost use Rattle.listing.specs.Printed.{printed};
+ghost use Rattle.listing.specs.Writing.{Wrote};
+
+// The room of the longest listing: the heading, and 4,096 lines of at most 22 bytes.
+pub const ROOM: usize = 26 + 4096 * 22;
+
+// The listing of the map, or the line of the check that declines it. The text's length.
+pub fn list(map: &[u8], out: &mut [u8; ROOM]) -> usize
+    ensures { λ r. ⌜ r ≡ length (printed (now (map .entry))) ⌝ }
+    ensures { λ _. ⌜ now (out .exit) ≡ laid (printed (now (map .entry))) (now (out .entry)) ⌝ }
+{
+    let k = card::refusal(map);
+    if k != 0 {
+        return refused(k, out);
+    }
+    put_listing(map, out)
+}
+
+// The line of refusal k. Its length.
+pub fn refused(k: u8, out: &mut [u8; ROOM]) -> usize
+    ensures { λ r. ⌜ r ≡ length (refusedLine k) ⌝ }
+    ensures { λ _. ⌜ now (out .exit) ≡ laid (refusedLine k) (now (out .entry)) ⌝ }
+{
+    let at = put_text(out, 0, b"refused ");
+    put_number(out, at, k as usize, b'\n')
+}
+
+// The heading, then the lines of all places.
+fn put_listing(map: &[u8], out: &mut [u8]) -> usize
+    requires { ⌜ (openRefusal (now map) ≡ 0) × (90138 ≤ length (now out)) ⌝ }
+    ensures { λ r. ⌜ Wrote (now (out .entry)) 0 (listing (now (map .entry))) r (now (out .exit)) ⌝ }
+{
+    let at = put_text(out, 0, b"place kind mate node area\n");
+    put_lines(map, out, at)
+}

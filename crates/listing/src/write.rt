@@ -1,0 +1,57 @@
+// Bytes put one after the other into lent memory. Each function answers the place after them.
+ghost use mathlib.Core.Path.{_≡_};
+ghost use mathlib.Core.List.{[], _∷_, _++_};
+ghost use Prim.Native.Nat.{_+_, _<_, _≤_};
+ghost use lib.ListN.{length};
+ghost use Rattle.text.specs.Decimal.{decimal, zeroByte};
+ghost use Rattle.listing.specs.Writing.{Wrote};
+
+// A number of at most four digits, and the byte after it.
+pub fn put_number(out: &mut [u8], at: usize, x: usize, end: u8) -> usize
+    requires { ⌜ (x < 10000) × (at + 5 ≤ length (now out)) ⌝ }
+    ensures { λ r. ⌜ Wrote (now (out .entry)) at (decimal x ++ (end ∷ [])) r (now (out .exit)) × (r ≤ at + 5) ⌝ }
+{
+    let next = put_decimal(out, at, x);
+    put_byte(out, next, end)
+}
+
+// The bytes of a text.
+pub fn put_text(out: &mut [u8], at: usize, text: &[u8]) -> usize
+    requires { ⌜ at + length (now text) ≤ length (now out) ⌝ }
+    ensures { λ r. ⌜ Wrote (now (out .entry)) at (now (text .entry)) r (now (out .exit)) ⌝ }
+{
+    let mut i = 0;
+    while i < text.len() {
+        out[at + i] = text[i];
+        i += 1;
+    }
+    at + i
+}
+
+// A number in decimal: the digits of its tenth, then its last.
+fn put_decimal(out: &mut [u8], at: usize, x: usize) -> usize
+    requires { ⌜ at + length (decimal x) ≤ length (now out) ⌝ }
+    ensures { λ r. ⌜ Wrote (now (out .entry)) at (decimal x) r (now (out .exit)) ⌝ }
+{
+    if x < 10 {
+        return put_byte(out, at, digit(x));
+    }
+    let next = put_decimal(out, at, x / 10);
+    put_byte(out, next, digit(x % 10))
+}
+
+pub fn put_byte(out: &mut [u8], at: usize, b: u8) -> usize
+    requires { ⌜ at < length (now out) ⌝ }
+    ensures { λ r. ⌜ Wrote (now (out .entry)) at (b ∷ []) r (now (out .exit)) ⌝ }
+{
+    out[at] = b;
+    at + 1
+}
+
+// The byte of a digit.
+fn digit(d: usize) -> u8
+    requires { ⌜ d < 10 ⌝ }
+    ensures { λ r. ⌜ r ≡ zeroByte + d ⌝ }
+{
+    b'0' + d as u8
+}

@@ -1,0 +1,30 @@
+-- `pmap::desk::pmap_unpack` meets its contract. Assumes nothing.
+use borrow.Author.Needs.{needs}
+use Rattle.pmap.proofs.Drawings.{unpack-small, unpack-status}
+use Rattle.pmap.proofs.Given.{cell-same}
+use Rattle.pmap.proofs.desk.pmap_unpack.Statement.{statement}
+use Rattle.pmap.proofs.desk.pmap_unpack.Tie as tie
+
+unpack-requires : tie.Need-unpack-requires
+unpack-requires c κs = search needs
+
+give-borders-requires : tie.Need-give-borders-requires
+give-borders-requires c κs = unpack-small _ _ _ _ (c .before .before .before .before .before .unpack .ensures .0)
+
+same-length : tie.Need-same-length
+same-length c = search needs
+
+same-length-2 : tie.Need-same-length-2
+same-length-2 c = search needs
+
+returns : tie.Need-returns
+returns c =
+    let u = c .before .before .before .before .before .before .unpack .ensures in
+    let g = c .give-borders .ensures in (
+      unpack-status _ _ _ _ _ (g .0) (u .0),
+      (u .1 .0, (u .1 .1, cell-same _ _ _ _ (g .1) (u .0))),
+    )
+
+pub pmap-unpack-spec : {M : Type 1} → statement M
+pmap-unpack-spec =
+    tie.close (tie.spec unpack-requires give-borders-requires same-length same-length-2 returns)

@@ -1,0 +1,38 @@
+-- What packing returns to a C host: the status, and with 7 the pair of borders beside it, in one number of 32 bits.
+--
+-- smallerIn r, largerIn r == the numbers that bits 8 to 19 and bits 20 to 31 of r hold
+-- PackStatus D a r == r has the number of the answer a and, with 7, a pair of D
+-- returned p       == what is returned for the case p
+-- Small p          == the numbers of the case p fit: a length its cell, two borders their bits
+-- Assumes nothing.
+use mathlib.Core.Path.{_≡_}
+use mathlib.Core.Logic.{_≢_}
+use mathlib.Core.List.{List}
+use Prim.Native.Nat.{ℕ, _+_, _*_, _/_, _%_, _<_}
+use Rattle.drawing.specs.Drawing.{Drawing}
+use Rattle.drawing.specs.Checks.{CrossingPair}
+use Rattle.drawing.specs.Session.{Answer, numberOf}
+use Rattle.packing.specs.declared.answers.Packed.{Packed}
+
+abbrev pub smallerIn : ℕ → ℕ
+smallerIn r = r / 256 % 4096
+
+abbrev pub largerIn : ℕ → ℕ
+largerIn r = r / 1048576
+
+-- the C interface: "low 8 bits: 0 or the refusal; with 7, bits 8 to 19 hold the smaller border and bits 20 to 31 the larger;
+-- else those bits are 0"
+pub record PackStatus (D : Drawing) (a : Answer (List ℕ)) (r : ℕ) : Type 0 where
+  pub low : r % 256 ≡ numberOf a
+  pub pair : numberOf a ≡ 7 → CrossingPair D (smallerIn r) (largerIn r)
+  pub none : numberOf a ≢ 7 → r / 256 ≡ 0
+
+abbrev pub returned : Packed → ℕ
+returned (Packed.Length l) = 0
+returned (Packed.Crossing a b) = 7 + 256 * a + 1048576 * b
+returned (Packed.Declined k) = k
+
+abbrev pub Small : Packed → Type 0
+Small (Packed.Length l) = l < 65536
+Small (Packed.Crossing a b) = (a < 4096) × (b < 4096)
+Small (Packed.Declined k) = Unit {0}

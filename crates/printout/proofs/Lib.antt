@@ -1,0 +1,3 @@
+-- The printout of a text: laws.
+pub mod Mapped
+pub mod Denoted

@@ -1,0 +1,74 @@
+// Reading the whole text: one pass to count its borders, one to write the lists.
+use crate::answers::Parsed;
+use crate::answers::Row;
+use crate::lines::begins;
+use crate::lines::line;
+ghost use mathlib.Core.Path.{_≡_};
+ghost use mathlib.Core.Option.{none};
+ghost use lib.ListN.{length, drop};
+ghost use Rattle.drawing.specs.Laid.{bordersOf, turningAfter, marksAfter};
+ghost use Rattle.text.specs.Input.{drawingOr17, readLines, readText};
+ghost use Rattle.reading.specs.Answers.{parsedMeans};
+
+// The line of names has 25 bytes.
+const NAMES_LENGTH: usize = 25;
+
+// Writes the drawing of the text and answers m, or declines with 17.
+pub fn parse(text: &[u8], turning: &mut [u16; 4096], marks: &mut [u8; 2048]) -> Parsed
+    ensures { λ r. ⌜ parsedMeans r ≡ bordersOf (readText (now (text .entry))) ⌝ }
+    ensures { λ _. ⌜ now (turning .exit) ≡ turningAfter (readText (now (text .entry))) (now (turning .entry)) ⌝ }
+    ensures { λ _. ⌜ now (marks .exit) ≡ marksAfter (readText (now (text .entry))) (now (marks .entry)) ⌝ }
+{
+    if !begins(text, b"border first second mark\n") {
+        return Parsed::Declined(17);
+    }
+    let Parsed::Borders(m) = count_lines(text, NAMES_LENGTH) else {
+        return Parsed::Declined(17);
+    };
+    write_lines(text, NAMES_LENGTH, turning, marks);
+    Parsed::Borders(m)
+}
+
+// How many lines of borders there are from a position to the end of the text.
+fn count_lines(text: &[u8], at: usize) -> Parsed
+    ensures { λ r. ⌜ parsedMeans r ≡ bordersOf (drawingOr17 (readLines 2048 0 (drop at (now (text .entry))))) ⌝ }
+{
+    let mut next = at;
+    let mut e = 0;
+    while next < text.len() {
+        if e == 2048 {
+            return Parsed::Declined(17);
+        }
+        let Row::At(_, _, _, after) = line(text, next, e) else {
+            return Parsed::Declined(17);
+        };
+        next = after;
+        e += 1;
+    }
+    Parsed::Borders(e)
+}
+
+// Writes the entries and the marks of the lines from a position to the end of the text. All of them are well formed, so
+// that no line is missing.
+fn write_lines(text: &[u8], at: usize, turning: &mut [u16], marks: &mut [u8])
+    requires { ⌜ (readLines 2048 0 (drop at (now text)) ≡ none → ⊥)
+        × (length (now turning) ≡ 4096)
+        × (length (now marks) ≡ 2048) ⌝ }
+    ensures { λ _. ⌜ now (turning .exit)
+        ≡ turningAfter (drawingOr17 (readLines 2048 0 (drop at (now (text .entry))))) (now (turning .entry)) ⌝ }
+    ensures { λ _. ⌜ now (marks .exit)
+        ≡ marksAfter (drawingOr17 (readLines 2048 0 (drop at (now (text .entry))))) (now (marks .entry)) ⌝ }
+{
+    let mut next = at;
+    let mut e = 0;
+    while next < text.len() {
+        let Row::At(first, second, mark, after) = line(text, next, e) else {
+            return;
+        };
+        turning[2 * e] = first;
+        turning[2 * e + 1] = second;
+        marks[e] = mark;
+        next = after;
+        e += 1;
+    }
+}

@@ -1,0 +1,4 @@
+-- Counting over runs of letters: the laws.
+pub mod Runs
+pub mod Reading
+pub mod Letters

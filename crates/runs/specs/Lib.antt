@@ -1,0 +1,2 @@
+-- Counting over runs of letters: the definitions.
+pub mod Runs

@@ -1,0 +1,25 @@
+-- `sizes::size::size_at` meets its contract. Assumes nothing.
+use Rattle.walks.proofs.Walks.{stands}
+use Rattle.sizes.proofs.Counting.{size-none, first-itself, size-some}
+use borrow.Author.Needs.{needs}
+use Rattle.sizes.proofs.size.size_at.Statement.{statement}
+use Rattle.sizes.proofs.size.size_at.Tie as tie
+
+places-requires : tie.Need-places-requires
+places-requires c κs = search needs
+
+returns : tie.Need-returns
+returns c = search size-none
+
+first-at-requires : tie.Need-first-at-requires
+first-at-requires c κs = search needs
+
+size-from-requires : tie.Need-size-from-requires
+size-from-requires c κs = search (stands, first-itself, needs)
+
+returns-2 : tie.Need-returns-2
+returns-2 c = search size-some
+
+pub size-at-spec : {M : Type 1} → statement M
+size-at-spec =
+    tie.close (tie.spec places-requires returns first-at-requires size-from-requires returns-2)

@@ -1,0 +1,2 @@
+-- The strings of a map that opens: the laws.
+pub mod Opened

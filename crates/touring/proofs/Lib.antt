@@ -1,0 +1,3 @@
+-- The tour in the working list: the laws.
+pub mod Outside
+pub mod Touring

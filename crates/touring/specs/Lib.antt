@@ -1,0 +1,2 @@
+-- The tour in the working list: what its contracts cite.
+pub mod Working

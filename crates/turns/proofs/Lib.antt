@@ -1,0 +1,2 @@
+-- Turn and turn back: the laws.
+pub mod Turns

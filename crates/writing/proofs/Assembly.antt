@@ -1,0 +1,180 @@
+-- The map's bytes from their parts: the header, A, B and B*, and what stood beyond.
+--
+-- split-part       == the bytes that hold all bits, then the rest
+-- word-lengths     == the strings of the word have the lengths that m and n say
+-- map-whole        == a length goes as far as itself
+-- map-fits         == the map fits into the output
+-- map-a, map-b, map-s == each string's bytes are zero before it is written
+-- map-long, map-written == at the end the map's length is right, and its bytes are there
+-- Assumes nothing.
+use mathlib.Core.Path.{_≡_, sym, ap, _∙_}
+use mathlib.Core.List.{List, _∷_, _++_, append-assoc}
+use Prim.Native.Nat.{ℕ, _+_, _-_, _*_, _/_, _%_, _<_, _≤_}
+use native.Mathlib.Omega.{arith}
+use lib.ListN.{length, getD, take, drop, length-drop, take-append-drop}
+use lib.Seq.{getD-drop, drop-drop, drop-cons, ext-getD}
+use Rattle.count.specs.Below.{count}
+use Rattle.words.specs.Word.{Family, round, square, Word}
+use Rattle.bits.specs.Strings.{bytesFor}
+use Rattle.format.specs.Bytes.{longest, header, Size, bitsB, startB, mapLength, stringA, stringB, bytesOf, mapBytes}
+use Rattle.format.proofs.Bits.{EachBelow}
+use Rattle.format.proofs.Strings.{inFamily, families-all, string-a-length, string-a-bits, string-b-length, string-b-bits}
+use Rattle.format.proofs.Parts.{Lengths, map-length}
+use Rattle.touring.specs.Working.{Outside}
+use Rattle.writing.specs.Writing.{wordAt, Legible, Sized, Holds, Zeroed, Headed}
+use Rattle.writing.proofs.Holding.{blank-holds, holds-kept, holds-part}
+use Rattle.writing.proofs.Filling.{word-length}
+
+four-first : (s : List ℕ) → header ≤ length s → s ≡ getD s 0 0 ∷ getD s 1 0 ∷ getD s 2 0 ∷ getD s 3 0 ∷ drop 4 s
+four-first s l =
+    let one : ℕ → ℕ = λ i. getD s i 0 in
+    drop-cons s 0 0 (omega arith)
+    ∙ ap (λ t. one 0 ∷ t) (drop-cons s 1 0 (omega arith))
+    ∙ ap (λ t. one 0 ∷ one 1 ∷ t) (drop-cons s 2 0 (omega arith))
+    ∙ ap (λ t. one 0 ∷ one 1 ∷ one 2 ∷ t) (drop-cons s 3 0 (omega arith))
+
+pub split-part : (s : List ℕ) (at : ℕ) (bits : List ℕ) (k : ℕ) → EachBelow 2 bits → Holds s at bits (length bits) → bytesFor (length bits) ≡ k
+    → drop at s ≡ bytesOf bits ++ drop (at + k) s
+split-part s at bits k h H e =
+    sym (take-append-drop k (drop at s))
+    ∙ ap (λ t. t ++ drop k (drop at s)) (ap (λ x. take x (drop at s)) (sym e) ∙ holds-part s at bits h H)
+    ∙ ap (λ t. bytesOf bits ++ t) (drop-drop k at s)
+
+pub map-whole : (e : ℕ) → e ≤ e
+map-whole e = omega arith
+
+module _ (ms w : List ℕ) (n : ℕ) (L : Legible ms w) (Z : Sized n ms w) where
+  abbrev z : Size
+  z = record { m = length ms; n = n }
+
+  abbrev W : Word
+  W = wordAt ms w
+
+  abbrev A : List ℕ
+  A = stringA W
+
+  abbrev B : Family → List ℕ
+  B K = stringB K W
+
+  b-long : (K : Family) → length (B K) ≡ bitsB K z
+  b-long round = string-b-length W round ∙ ap (count (inFamily round W)) (word-length ms w) ∙ Z .rounds
+  b-long square =
+      let f = string-b-length W square ∙ ap (count (inFamily square W)) (word-length ms w) in
+      omega (arith, f, families-all W (2 * length ms), Z .rounds, Z .least, Z .most)
+
+  pub word-lengths : Lengths z W
+  word-lengths =
+      record {
+        m-small = omega (arith, L .small);
+        n-small = omega (arith, L .small, Z .most);
+        a = string-a-length W ∙ word-length ms w;
+        b = b-long;
+      }
+
+  -- a, b and c: the bytes of A, B and B*
+  module _ (a b c : ℕ) (ea : a ≡ bytesFor (2 * length ms)) (eb : b ≡ bytesFor (2 * n - 2))
+      (ec : c ≡ bytesFor (2 * (length ms + 1 - n))) where
+    a-bytes : bytesFor (length A) ≡ a
+    a-bytes = ap bytesFor (word-lengths .a) ∙ sym ea
+
+    b-bytes : bytesFor (length (B round)) ≡ b
+    b-bytes = ap bytesFor (b-long round) ∙ sym eb
+
+    s-bytes : bytesFor (length (B square)) ≡ c
+    s-bytes = ap bytesFor (b-long square) ∙ sym ec
+
+    short : header + a + b + c ≤ longest
+    unfolding bytesFor
+    short = omega (arith, ea, eb, ec, L .small, Z .least, Z .most)
+
+    pub map-long : header + a + b + c ≡ length (mapBytes z W)
+    unfolding mapLength startB
+    map-long = omega (arith, map-length z W word-lengths, ea, eb, ec)
+
+    module _ (s0 : List ℕ) (room : longest ≤ length s0) where
+      pub map-fits : header + a + b + c ≤ length s0
+      map-fits = omega (arith, short)
+
+      -- the first k bytes made 0, and then y and x for the header: here k is the map's length, and y and x are m and n
+      module _ (k : ℕ) (s1 : List ℕ) (Z1 : Zeroed k s0 s1) (far : header + a + b + c ≤ k) (y x : ℕ) (s2 : List ℕ) (h : Headed y x s1 s2) where
+        long-two : length s2 ≡ length s0
+        long-two = h .outside .same-length ∙ Z1 .outside .same-length
+
+        blank-two : (i : ℕ) → header ≤ i → i < header + a + b + c → getD s2 i 0 ≡ 0
+        blank-two i l g = h .outside .after i l ∙ Z1 .zero i (omega arith)
+
+        pub map-a : Holds s2 header A 0
+        map-a = blank-holds s2 header A (omega arith) (omega (arith, a-bytes, long-two, map-fits)) (λ i l k. blank-two i l (omega (arith, a-bytes)))
+
+        module _ (s3 : List ℕ) (HA : Holds s3 header A (length A)) (OA : Outside header (header + bytesFor (length A)) s2 s3) where
+          blank-three : (i : ℕ) → header + a ≤ i → i < header + a + b + c → getD s3 i 0 ≡ 0
+          blank-three i l k = OA .after i (omega (arith, a-bytes)) ∙ blank-two i (omega arith) k
+
+          pub map-b : Holds s3 (header + a) (B round) 0
+          map-b =
+              blank-holds s3 (header + a) (B round) (omega (arith, short))
+              (omega (arith, b-bytes, OA .same-length, long-two, map-fits))
+              (λ i l k. blank-three i l (omega (arith, b-bytes)))
+
+          module _ (s4 : List ℕ) (HB : Holds s4 (header + a) (B round) (length (B round)))
+              (OB : Outside (header + a) (header + a + bytesFor (length (B round))) s3 s4) where
+            pub map-s : Holds s4 (header + a + b) (B square) 0
+            map-s =
+                blank-holds s4 (header + a + b) (B square) (omega (arith, short))
+                (omega (arith, s-bytes, OB .same-length, OA .same-length, long-two, map-fits))
+                (λ i l k. OB .after i (omega (arith, b-bytes)) ∙ blank-three i (omega arith) (omega (arith, s-bytes)))
+
+            module _ (s5 : List ℕ) (HS : Holds s5 (header + a + b) (B square) (length (B square)))
+                (OS : Outside (header + a + b) (header + a + b + bytesFor (length (B square))) s4 s5) where
+              long-five : length s5 ≡ length s0
+              long-five = OS .same-length ∙ OB .same-length ∙ OA .same-length ∙ long-two
+
+              a-still : Holds s5 header A (length A)
+              a-still =
+                  holds-kept s3 header A (length A) HA s5 (OS .same-length ∙ OB .same-length)
+                  (λ i l k. OS .before i (omega (arith, a-bytes)) ∙ OB .before i (omega (arith, a-bytes)))
+
+              b-still : Holds s5 (header + a) (B round) (length (B round))
+              b-still = holds-kept s4 (header + a) (B round) (length (B round)) HB s5 (OS .same-length) (λ i l k. OS .before i (omega (arith, b-bytes)))
+
+              beyond : k ≡ header + a + b + c → drop (header + a + b + c) s5 ≡ drop (header + a + b + c) s0
+              beyond q =
+                  let e = header + a + b + c in
+                  ext-getD 0 (drop e s5) (drop e s0) (length-drop e s5 ∙ ap (λ x. x - e) long-five ∙ sym (length-drop e s0))
+                  (λ i l.
+                  getD-drop e s5 i 0
+                  ∙ OS .after (e + i) (omega (arith, s-bytes))
+                  ∙ OB .after (e + i) (omega (arith, b-bytes))
+                  ∙ OA .after (e + i) (omega (arith, a-bytes))
+                  ∙ h .outside .after (e + i) (omega arith)
+                  ∙ Z1 .outside .after (e + i) (omega arith)
+                  ∙ sym (getD-drop e s0 i 0))
+
+              front : (i : ℕ) → i < header → getD s5 i 0 ≡ getD s2 i 0
+              front i l = OS .before i (omega arith) ∙ OB .before i (omega arith) ∙ OA .before i l
+
+              pub map-written : k ≡ header + a + b + c → y ≡ length ms → x ≡ n → s5 ≡ mapBytes z W ++ drop (length (mapBytes z W)) s0
+              unfolding mapBytes
+              map-written ends ym xn =
+                  let e = header + a + b + c in
+                  let x0 : getD s5 0 0 ≡ length ms % 256 = front 0 (omega arith) ∙ h .m-low ∙ ap (λ v. v % 256) ym in
+                  let x1 : getD s5 1 0 ≡ length ms / 256 % 256 = front 1 (omega arith) ∙ h .m-high ∙ ap (λ v. v / 256 % 256) ym in
+                  let x2 : getD s5 2 0 ≡ n % 256 = front 2 (omega arith) ∙ h .n-low ∙ ap (λ v. v % 256) xn in
+                  let x3 : getD s5 3 0 ≡ n / 256 % 256 = front 3 (omega arith) ∙ h .n-high ∙ ap (λ v. v / 256 % 256) xn in
+                  let rest : drop 4 s5 ≡ bytesOf A ++ (bytesOf (B round) ++ (bytesOf (B square) ++ drop e s0))
+                  = split-part s5 header A a (string-a-bits W) a-still a-bytes
+                  ∙ ap (λ t. bytesOf A ++ t)
+                  (split-part s5 (header + a) (B round) b (string-b-bits W round) b-still b-bytes
+                  ∙ ap (λ t. bytesOf (B round) ++ t)
+                  (split-part s5 (header + a + b) (B square) c (string-b-bits W square) HS s-bytes ∙ ap (λ t. bytesOf (B square) ++ t) (beyond ends))) in
+                  let grouped : (P Q R d : List ℕ) → P ++ (Q ++ (R ++ d)) ≡ (P ++ (Q ++ R)) ++ d = λ P Q R d. simp append-assoc in
+                  let whole : (x y u v : ℕ) (t : List ℕ) → getD s5 0 0 ≡ x → getD s5 1 0 ≡ y → getD s5 2 0 ≡ u → getD s5 3 0 ≡ v → drop 4 s5 ≡ t
+                  → s5 ≡ x ∷ y ∷ u ∷ v ∷ t
+                  = λ x y u v t p q r o d. four-first s5 (omega (arith, long-five, room)) ∙ rw (p, q, r, o, d) in
+                  whole (length ms % 256) (length ms / 256 % 256) (n % 256) (n / 256 % 256)
+                  (bytesOf A ++ (bytesOf (B round) ++ (bytesOf (B square) ++ drop e s0))) x0 x1 x2 x3 rest
+                  ∙ ap (λ t. length ms % 256 ∷ length ms / 256 % 256 ∷ n % 256 ∷ n / 256 % 256 ∷ t)
+                  (grouped (bytesOf A) (bytesOf (B round)) (bytesOf (B square)) (drop e s0))
+                  ∙ ap (λ k. mapBytes z W ++ drop k s0) map-long
+
+pub ruleset far-all = (map-whole, map-fits)

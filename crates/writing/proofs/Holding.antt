@@ -1,0 +1,216 @@
+-- What bytes hold: zeros, and the bits of a string.
+--
+-- bytes-for-is, header-two, header-three == how many bytes; the header's are there
+-- headed-is        == the four bytes of the header, and the others as before
+-- zeroing-..       == the first bytes made 0, one after another
+-- blank-holds      == zeroed bytes hold no bits yet
+-- holds-more       == one bit more
+-- holds-kept       == what is held stays where other bytes change
+-- holds-part       == bytes that hold all bits are the bytes of the bits
+-- Assumes nothing.
+use mathlib.Core.Path.{_≡_, refl, sym, ap, _∙_}
+use mathlib.Core.Logic.{inl, inr}
+use mathlib.Core.Bool.{Bool}
+use mathlib.Core.List.{List}
+use Prim.Native.Nat.{ℕ, _+_, _*_, _/_, _%_, _^_, _<_, _≤_}
+use native.Mathlib.Nat.{zero-div}
+use native.Mathlib.Omega.{arith}
+use borrow.Author.Needs.{needs}
+use lib.ListN.{length, getD, set, take, drop, length-set, length-take, length-drop, List·getD-eq-default}
+use lib.Seq.{getD-set-same, getD-set-other, getD-take, getD-drop}
+use Rattle.count.specs.Below.{pick}
+use Rattle.count.proofs.Logic.{same-or-not, lt-or-ge}
+use Rattle.bits.specs.Strings.{bit, bytesFor}
+use Rattle.bits.specs.Writes.{withBit, setBit}
+use Rattle.bits.proofs.Laws.{bit-past}
+use Rattle.bits.proofs.Digits.{with-bit-below}
+use Rattle.bits.proofs.Stores.{set-bit-length, set-bit-here, set-bit-other}
+use Rattle.format.specs.Bytes.{longest, header, bytesOf}
+use Rattle.format.proofs.Bits.{EachBelow, each-below, bytes-of-length, bytes-of-bit, bytes-of-small, bytes-same}
+use Rattle.touring.specs.Working.{Outside}
+use Rattle.writing.specs.Writing.{Holds, Zeroed, Headed}
+use Rattle.touring.proofs.Outside.{outside-none, outside-set}
+
+-- ---- bytes_for
+pub bytes-for-is : (k : ℕ) → (k + 7) / 8 ≡ bytesFor k
+unfolding bytesFor
+bytes-for-is k = refl
+
+pub ruleset bytes-for-all = (bytes-for-is, needs)
+
+-- ---- write_header
+pub header-two : (s : List ℕ) (a : ℕ) → header ≤ length s → 1 < length (set s 0 a)
+header-two s a l = omega (arith, length-set s 0 a)
+
+pub header-three : (s : List ℕ) (a b : ℕ) → header ≤ length s → 2 < length (set (set s 0 a) 1 b)
+header-three s a b l = omega (arith, length-set s 0 a, length-set (set s 0 a) 1 b)
+
+pub headed-is : (m n : ℕ) (s : List ℕ) → header ≤ length s
+    → Headed m n s (set (set (set (set s 0 (m % 256)) 1 (m / 256 % 256)) 2 (n % 256)) 3 (n / 256 % 256))
+headed-is m n s l =
+    let a = set s 0 (m % 256) in
+    let b = set a 1 (m / 256 % 256) in
+    let c = set b 2 (n % 256) in
+    let d : ℕ = n / 256 % 256 in
+    let la = length-set s 0 (m % 256) in
+    let lb = length-set a 1 (m / 256 % 256) in
+    let lc = length-set b 2 (n % 256) in
+    record {
+      m-low =
+          getD-set-other c 3 0 d 0 (omega arith)
+          ∙ getD-set-other b 2 0 (n % 256) 0 (omega arith)
+          ∙ getD-set-other a 1 0 (m / 256 % 256) 0 (omega arith)
+          ∙ getD-set-same s 0 (m % 256) 0 (omega arith);
+      m-high =
+          getD-set-other c 3 1 d 0 (omega arith)
+          ∙ getD-set-other b 2 1 (n % 256) 0 (omega arith)
+          ∙ getD-set-same a 1 (m / 256 % 256) 0 (omega arith);
+      n-low = getD-set-other c 3 2 d 0 (omega arith) ∙ getD-set-same b 2 (n % 256) 0 (omega arith);
+      n-high = getD-set-same c 3 d 0 (omega arith);
+      outside =
+          outside-set 0 header s c 3 d
+          (outside-set 0 header s b 2 (n % 256)
+          (outside-set 0 header s a 1 (m / 256 % 256)
+          (outside-set 0 header s s 0 (m % 256) (outside-none 0 header s) (omega arith) (omega arith))
+          (omega arith) (omega arith))
+          (omega arith) (omega arith))
+          (omega arith) (omega arith);
+    }
+
+pub ruleset header-all = (header-two, header-three, needs)
+
+-- ---- zero
+pub record Zeroing (k : ℕ) (old : List ℕ) (i : ℕ) (s : List ℕ) : Type 0 where
+  pub within : i ≤ k
+  pub room : k ≤ length s
+  pub zero : (j : ℕ) → j < i → getD s j 0 ≡ 0
+  pub outside : Outside 0 k old s
+
+module _ (k : ℕ) (old : List ℕ) where
+  pub zeroing-start : k ≤ length old → Zeroing k old 0 old
+  zeroing-start l = record { within = omega arith; room = l; zero = λ j h. absurd (omega arith); outside = outside-none 0 k old }
+
+  module _ (i : ℕ) (s : List ℕ) (Z : Zeroing k old i s) where
+    pub zeroing-more : i < k → Zeroing k old (i + 1) (set s i 0)
+    zeroing-more l =
+        record {
+          within = omega arith;
+          room = omega (arith, length-set s i 0, Z .room);
+          zero = λ j h.
+              elim (same-or-not j i) [
+                | inl e ↦ rw e (getD-set-same s i 0 0 (omega (arith, Z .room)))
+                | inr n ↦ getD-set-other s i j 0 0 n ∙ Z .zero j (omega arith)
+              ];
+          outside = outside-set 0 k old s i 0 (Z .outside) (omega arith) l;
+        }
+
+    pub zeroing-all : k ≤ i → Zeroed k old s
+    zeroing-all l = record { zero = λ j h. Z .zero j (omega arith); outside = Z .outside }
+
+    pub zeroing-length : length s ≡ length old
+    zeroing-length = Z .outside .same-length
+
+pub ruleset zero-all = (zeroing-start, zeroing-more, zeroing-all, zeroing-length, needs)
+
+-- ---- what bytes hold
+-- bit j of the bytes from `at` on is in this byte, at this place
+bit-there : (s : List ℕ) (at j : ℕ) → bit s (8 * at + j) ≡ getD s (at + j / 8) 0 / 2 ^ (j % 8) % 2
+unfolding bit
+bit-there s at j =
+    let a : (8 * at + j) / 8 ≡ at + j / 8 = omega arith in
+    let b : (8 * at + j) % 8 ≡ j % 8 = omega arith in
+    rw (a, b)
+
+bit-zero : (s : List ℕ) (at j : ℕ) → getD s (at + j / 8) 0 ≡ 0 → bit s (8 * at + j) ≡ 0
+bit-zero s at j z = bit-there s at j ∙ ap (λ x. x / 2 ^ (j % 8) % 2) z ∙ ap (λ x. x % 2) (zero-div (2 ^ (j % 8)))
+
+pub blank-holds : (s : List ℕ) (at : ℕ) (bits : List ℕ) → at ≤ longest → at + bytesFor (length bits) ≤ length s
+    → ((i : ℕ) → at ≤ i → i < at + bytesFor (length bits) → getD s i 0 ≡ 0) → Holds s at bits 0
+blank-holds s at bits l r z =
+    record {
+      early = l;
+      room = r;
+      within = omega arith;
+      on = λ j h. absurd (omega arith);
+      off = λ j h k. bit-zero s at j (z (at + j / 8) (omega arith) (omega arith));
+      small = λ i h k. omega (arith, z i h k);
+    }
+
+pub bits-room : (bits : List ℕ) (k : ℕ) → k < length bits → k < 8 * bytesFor (length bits)
+unfolding bytesFor
+bits-room bits k l = omega arith
+
+set-small : (s : List ℕ) (i : ℕ) (v : Bool) (j : ℕ) → getD s j 0 < 256 → i / 8 < length s → getD (setBit s i v) j 0 < 256
+unfolding setBit
+set-small s i v j l b =
+    let x = withBit (getD s (i / 8) 0) (i % 8) v in
+    elim (same-or-not j (i / 8)) [
+      | inl e ↦
+          rw (e, getD-set-same s (i / 8) x 0 b)
+          (with-bit-below (getD s (i / 8) 0) (i % 8) v 8 (rw e at l) (omega arith))
+      | inr d ↦ rw (getD-set-other s (i / 8) j x 0 d) l
+    ]
+
+module _ (s : List ℕ) (at : ℕ) (bits : List ℕ) (k : ℕ) (H : Holds s at bits k) where
+  pub holds-more : k < length bits → (v : Bool) → pick v 1 0 ≡ getD bits k 0 → Holds (setBit s (8 * at + k) v) at bits (k + 1)
+  holds-more l v e =
+      let u = setBit s (8 * at + k) v in
+      let b : (8 * at + k) / 8 < length s = omega (arith, bits-room bits k l, H .room) in
+      record {
+        early = H .early;
+        room = omega (arith, H .room, set-bit-length s (8 * at + k) v);
+        within = omega arith;
+        on = λ j h.
+            elim (same-or-not j k) [
+              | inl q ↦ rw q (set-bit-here s (8 * at + k) v b ∙ e)
+              | inr d ↦ set-bit-other s (8 * at + k) v (8 * at + j) (omega arith) ∙ H .on j (omega arith)
+            ];
+        off = λ j h r. set-bit-other s (8 * at + k) v (8 * at + j) (omega arith) ∙ H .off j (omega arith) r;
+        small = λ i h r. set-small s (8 * at + k) v i (H .small i h r) b;
+      }
+
+  pub holds-kept : (u : List ℕ) → length u ≡ length s → ((i : ℕ) → at ≤ i → i < at + bytesFor (length bits) → getD u i 0 ≡ getD s i 0) → Holds u at bits k
+  holds-kept u n same =
+      let there : (j : ℕ) → j < 8 * bytesFor (length bits) → bit u (8 * at + j) ≡ bit s (8 * at + j)
+      = λ j l. bit-there u at j ∙ ap (λ x. x / 2 ^ (j % 8) % 2) (same (at + j / 8) (omega arith) (omega arith)) ∙ sym (bit-there s at j) in
+      record {
+        early = H .early;
+        room = omega (arith, H .room);
+        within = H .within;
+        on = λ j l. there j (bits-room bits j (omega (arith, H .within))) ∙ H .on j l;
+        off = λ j l h. there j h ∙ H .off j l h;
+        small = λ i l h. omega (arith, same i l h, H .small i l h);
+      }
+
+bit-in : (p : List ℕ) (i : ℕ) → bit p i ≡ getD p (i / 8) 0 / 2 ^ (i % 8) % 2
+unfolding bit
+bit-in p i = refl
+
+bits-past : (bits : List ℕ) (i : ℕ) → 8 * bytesFor (length bits) ≤ i → length bits ≤ i
+unfolding bytesFor
+bits-past bits i g = omega arith
+
+-- all bits are held, and zeros after them
+held : (s : List ℕ) (at : ℕ) (bits : List ℕ) → Holds s at bits (length bits) → (i : ℕ) → i < 8 * bytesFor (length bits) → bit s (8 * at + i) ≡ getD bits i 0
+held s at bits H i l =
+    elim (lt-or-ge i (length bits)) [
+      | inl b ↦ H .on i b
+      | inr g ↦ H .off i g l ∙ sym (List·getD-eq-default bits 0 g)
+    ]
+
+pub holds-part : (s : List ℕ) (at : ℕ) (bits : List ℕ) → EachBelow 2 bits → Holds s at bits (length bits)
+    → take (bytesFor (length bits)) (drop at s) ≡ bytesOf bits
+holds-part s at bits h H =
+    let n = bytesFor (length bits) in
+    let p = take n (drop at s) in
+    let size : length p ≡ n = omega (arith, length-take n (drop at s), length-drop at s, H .room) in
+    let byte : (i : ℕ) → i < n → getD p i 0 ≡ getD s (at + i) 0 = λ i l. getD-take n (drop at s) i 0 l ∙ getD-drop at s i 0 in
+    bytes-same p (bytesOf bits)
+    (each-below 256 p (omega arith) (λ i l. rw (byte i (omega arith)) (H .small (at + i) (omega arith) (omega arith))))
+    (bytes-of-small bits h)
+    (size ∙ sym (bytes-of-length bits))
+    (λ i.
+    elim (lt-or-ge i (8 * n)) [
+      | inl l ↦ bit-in p i ∙ ap (λ x. x / 2 ^ (i % 8) % 2) (byte (i / 8) (omega arith)) ∙ sym (bit-there s at i) ∙ held s at bits H i l ∙ sym (bytes-of-bit bits h i)
+      | inr g ↦ bit-past p i (omega arith) ∙ sym (bytes-of-bit bits h i ∙ List·getD-eq-default bits 0 (bits-past bits i g))
+    ])

@@ -1,0 +1,4 @@
+-- Writing a map: the laws.
+pub mod Holding
+pub mod Filling
+pub mod Assembly

@@ -1,0 +1,2 @@
+-- Writing a map: what its contracts cite.
+pub mod Writing

@@ -1,0 +1,60 @@
+-- Writing a map: the word that the chart holds, and what the output holds on the way.
+--
+-- wordAt ms w      == the bracket word of the tour that stands in w, with marks ms
+-- Legible ms w     == the chart w has an end and a flag for each of the 2m positions
+-- Sized n ms w     == its word has 2n - 2 round letters, and n is 1 to m + 1
+-- Holds s at bits k == from byte `at` on s holds the first k of the bits, then zeros, in as many bytes as all the bits take
+-- Zeroed k old new == new is old with its first k entries 0
+-- Headed m n old new == new is old with m and n for its first four bytes
+-- Assumes nothing.
+use mathlib.Core.Path.{_≡_}
+use mathlib.Core.List.{List}
+use Prim.Native.Nat.{ℕ, _+_, _-_, _*_, _/_, _%_, _<_, _≤_}
+use lib.Dec.{eqb}
+use lib.ListN.{length, getD}
+use Rattle.count.specs.Below.{pick, count}
+use Rattle.words.specs.Word.{round, square, sameFamily, Word}
+use Rattle.bits.specs.Strings.{bit, bytesFor}
+use Rattle.drawing.specs.Drawing.{border}
+use Rattle.format.specs.Bytes.{longest, header}
+use Rattle.touring.specs.Working.{Outside, endIn, borderIn}
+
+unfoldable pub wordAt : List ℕ → List ℕ → Word
+unfolding border
+wordAt ms w =
+    record {
+      size = 2 * length ms;
+      letter = λ p. record {
+        family = pick (eqb (getD ms (borderIn w p) 0) 1) round square;
+        closing = eqb (getD w (2 * length ms + p) 0) 1;
+      };
+    }
+
+pub record Legible (ms w : List ℕ) : Type 0 where
+  pub room : 2 * (2 * length ms) ≤ length w
+  pub small : length ms ≤ 2048
+  pub below : (p : ℕ) → p < 2 * length ms → endIn w p < 2 * length ms
+
+pub record Sized (n : ℕ) (ms w : List ℕ) : Type 0 where
+  pub least : 1 ≤ n
+  pub most : n ≤ length ms + 1
+  pub rounds : count (λ p. sameFamily round (wordAt ms w .letter p .family)) (2 * length ms) ≡ 2 * n - 2
+
+pub record Holds (s : List ℕ) (at : ℕ) (bits : List ℕ) (k : ℕ) : Type 0 where
+  pub early : at ≤ longest
+  pub room : at + bytesFor (length bits) ≤ length s
+  pub within : k ≤ length bits
+  pub on : (j : ℕ) → j < k → bit s (8 * at + j) ≡ getD bits j 0
+  pub off : (j : ℕ) → k ≤ j → j < 8 * bytesFor (length bits) → bit s (8 * at + j) ≡ 0
+  pub small : (i : ℕ) → at ≤ i → i < at + bytesFor (length bits) → getD s i 0 < 256
+
+pub record Zeroed (k : ℕ) (old new : List ℕ) : Type 0 where
+  pub zero : (i : ℕ) → i < k → getD new i 0 ≡ 0
+  pub outside : Outside 0 k old new
+
+pub record Headed (m n : ℕ) (old new : List ℕ) : Type 0 where
+  pub m-low : getD new 0 0 ≡ m % 256
+  pub m-high : getD new 1 0 ≡ m / 256 % 256
+  pub n-low : getD new 2 0 ≡ n % 256
+  pub n-high : getD new 3 0 ≡ n / 256 % 256
+  pub outside : Outside 0 header old new

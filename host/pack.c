@@ -1,0 +1,123 @@
+/*
+ * pack - what the desk does with a drawing: it packs the drawing and writes the card.
+ *
+ *     pack DRAWING CARD
+ *
+ * DRAWING is a text as `places` reads it: the line `border first second mark`, then for each border its number, the
+ * entries of its even and odd end, and its mark. CARD is written only if the drawing is accepted. What is wrong goes to
+ * standard error, and the exit status is then 1; it is 2 if the desk was not asked properly.
+ */
+#include <errno.h>
+#include <stdio.h>
+#include <stdlib.h>
+#include <string.h>
+
+#include "pmap.h"
+
+enum { BORDERS = 2048 };
+
+static uint16_t turning[2 * BORDERS];
+static uint8_t marks[BORDERS];
+static uint16_t work[6 * BORDERS];
+
+/* One sentence for each refusal of packing. */
+static const char *what_is_wrong(uint32_t status)
+{
+    switch (PMAP_STATUS(status)) {
+    case PMAP_RANGE:
+        return "an entry is not the number of an end, or a mark is neither 0 nor 1";
+    case PMAP_REPEATED:
+        return "two entries of the turning list are equal";
+    case PMAP_APART:
+        return "the marked borders don't join all points";
+    case PMAP_MANY_MARKS:
+        return "there are more marked borders than a spanning tree has";
+    case PMAP_CROSSING:
+        return "two unmarked borders cross";
+    default:
+        return "the drawing was refused for a reason that this desk does not know";
+    }
+}
+
+static void stop(const char *path, const char *words)
+{
+    fprintf(stderr, "pack: %s: %s\n", path, words);
+    exit(1);
+}
+
+/* The next number of a line, at most `most`, and the byte after it. */
+static unsigned long read_number(const char *path, FILE *file, unsigned long most, int after)
+{
+    unsigned long number = 0;
+    int c = getc(file), digits = 0;
+
+    while (c >= '0' && c <= '9' && number <= most) {
+        number = 10 * number + (unsigned long)(c - '0');
+        digits++;
+        c = getc(file);
+    }
+    if (digits == 0 || number > most || c != after)
+        stop(path, "a line is not a border's number, two entries and a mark");
+    return number;
+}
+
+/* Reads the drawing; the number of its borders. */
+static size_t read_drawing(const char *path)
+{
+    static const char names[] = "border first second mark\n";
+    char line[sizeof names];
+    size_t m = 0;
+    int c;
+    FILE *file = fopen(path, "rb");
+
+    if (file == NULL)
+        stop(path, strerror(errno));
+    if (fgets(line, sizeof line, file) == NULL || strcmp(line, names) != 0)
+        stop(path, "the first line is not 'border first second mark'");
+    while ((c = getc(file)) != EOF) {
+        ungetc(c, file);
+        if (m == BORDERS)
+            stop(path, "there are more than 2,048 borders");
+        if (read_number(path, file, BORDERS, ' ') != m)
+            stop(path, "the borders are not numbered in order, from 0");
+        turning[2 * m] = (uint16_t)read_number(path, file, UINT16_MAX, ' ');
+        turning[2 * m + 1] = (uint16_t)read_number(path, file, UINT16_MAX, ' ');
+        marks[m] = (uint8_t)read_number(path, file, UINT8_MAX, '\n');
+        m++;
+    }
+    fclose(file);
+    return m;
+}
+
+static void write_card(const char *path, const uint8_t *card, size_t length)
+{
+    FILE *file = fopen(path, "wb");
+
+    if (file == NULL)
+        stop(path, strerror(errno));
+    if (fwrite(card, 1, length, file) != length || fclose(file) != 0)
+        stop(path, "the card can't be written");
+}
+
+int main(int argc, char **argv)
+{
+    static uint8_t card[PMAP_LONGEST];
+    uint16_t length;
+    uint32_t status;
+    size_t m;
+
+    if (argc != 3) {
+        fprintf(stderr, "usage: pack DRAWING CARD\n");
+        return 2;
+    }
+    m = read_drawing(argv[1]);
+    status = pmap_pack(turning, 2 * m, marks, m, 0, work, 6 * m, card, sizeof card, &length);
+    if (PMAP_STATUS(status) == PMAP_CROSSING)
+        fprintf(stderr, "pack: %s: borders %u and %u\n", argv[1], (unsigned)PMAP_SMALLER(status), (unsigned)PMAP_LARGER(status));
+    if (PMAP_STATUS(status) != PMAP_OK) {
+        fprintf(stderr, "pack: %s: %s (refusal %u)\n", argv[1], what_is_wrong(status), (unsigned)PMAP_STATUS(status));
+        return 1;
+    }
+    write_card(argv[2], card, length);
+    return 0;
+}

@@ -1,0 +1,29 @@
+/* Cards for the test program: random ones of a given size, all strings of a size, and a random source of its own. */
+#ifndef CARDS_H
+#define CARDS_H
+
+#include <stddef.h>
+#include <stdint.h>
+
+#include "reference.h"
+
+struct card {
+    uint8_t bytes[LONGEST];
+    size_t length;
+};
+
+/* The same numbers in every run, from a seed on. */
+void seed_random(uint64_t seed);
+uint64_t random_number(void);
+size_t random_below(size_t bound);
+
+/* A card that opens: m borders, n points (1 to m+1). `lean`, 0 to 8, is how readily brackets open: 4 is even. */
+void random_card(struct card *card, size_t m, size_t n, unsigned lean);
+
+/* A card of the right length with unused bits 0, whose strings are the bits of `strings`: A, then B, then B*. */
+void card_of_strings(struct card *card, size_t m, size_t n, uint64_t strings);
+
+/* The same drawing with its borders renumbered by chance, some of them turned round, and another start. */
+void renumber(const struct drawing *d, struct drawing *renumbered);
+
+#endif

@@ -1,0 +1,44 @@
+/* Bytes that are no map, or may be none. */
+#include "damage.h"
+
+#include <string.h>
+
+#include "reference.h"
+
+void each_damage(const uint8_t *card, size_t length, try_bytes *try)
+{
+    uint8_t copy[LONGEST + 1];
+    size_t i;
+    for (i = 0; i < length; i++) try(card, i);
+    memcpy(copy, card, length);
+    for (i = 0; i < 256; i += 51) {
+        copy[length] = (uint8_t)i;
+        try(copy, length + 1);
+    }
+    for (i = 0; i < 8 * length; i++) {
+        copy[i / 8] ^= (uint8_t)(1u << i % 8);
+        try(copy, length);
+        copy[i / 8] ^= (uint8_t)(1u << i % 8);
+    }
+}
+
+void each_header(try_bytes *try)
+{
+    static const size_t m_values[] = {0, 1, 2, 4, 5, 255, 256, 2047, 2048, 2049, 4096, 32768, 65535};
+    static uint8_t bytes[MOST_BYTES];
+    size_t i, j, add;
+    for (i = 0; i < sizeof m_values / sizeof *m_values; i++) {
+        size_t m = m_values[i], n_values[] = {0, 1, 2, m / 2, m, m + 1, m + 2, 2 * m, 65535};
+        for (j = 0; j < sizeof n_values / sizeof *n_values; j++) {
+            size_t n = n_values[j] % 65536, length = 4 + bytes_of(2 * m);
+            if (n >= 1 && n <= m + 1) length += bytes_of(2 * n - 2) + bytes_of(2 * (m + 1 - n));
+            memset(bytes, 0, sizeof bytes);
+            bytes[0] = (uint8_t)(m % 256);
+            bytes[1] = (uint8_t)(m / 256);
+            bytes[2] = (uint8_t)(n % 256);
+            bytes[3] = (uint8_t)(n / 256);
+            for (add = 0; add < 3; add++)
+                if (length + add - 1 <= sizeof bytes) try(bytes, length + add - 1);
+        }
+    }
+}

@@ -1,0 +1,19 @@
+/* Bytes that are no map, or may be none: damaged cards, and headers about every bound. Each is handed to `try`. */
+#ifndef DAMAGE_H
+#define DAMAGE_H
+
+#include <stddef.h>
+#include <stdint.h>
+
+/* No bytes that are tried are longer. */
+enum { MOST_BYTES = 8192 };
+
+typedef void try_bytes(const uint8_t *bytes, size_t length);
+
+/* Every prefix of a card, the card with a byte more, and every single bit of it flipped. */
+void each_damage(const uint8_t *card, size_t length, try_bytes *try);
+
+/* m and n about every bound, with lengths about the one that they give; all strings are 0. */
+void each_header(try_bytes *try);
+
+#endif

@@ -1,0 +1,241 @@
+/* What is wrong with a drawing or with a card, and unpacking. */
+#include "reference.h"
+
+size_t other(size_t h)
+{
+    return h % 2 == 0 ? h + 1 : h - 1;
+}
+
+int marked(const struct drawing *d, size_t h)
+{
+    return d->marks[h / 2] == 1;
+}
+
+size_t tour_after(const struct drawing *d, size_t h)
+{
+    return d->turning[marked(d, h) ? other(h) : h];
+}
+
+/* ---- "Numbers returned when a call declines", 1 to 7 ---- */
+
+static int in_range(const struct drawing *d)
+{
+    size_t i;
+    for (i = 0; i < 2 * d->m; i++)
+        if (d->turning[i] >= 2 * d->m) return 0;
+    for (i = 0; i < d->m; i++)
+        if (d->marks[i] > 1) return 0;
+    return d->m == 0 ? d->start == 0 : d->start < 2 * d->m;
+}
+
+static int entries_differ(const struct drawing *d)
+{
+    uint8_t seen[MOST_ENDS] = {0};
+    size_t h;
+    for (h = 0; h < 2 * d->m; h++) {
+        if (seen[d->turning[h]]) return 0;
+        seen[d->turning[h]] = 1;
+    }
+    return 1;
+}
+
+/* The cycles of the turning list, or of area walks: 1 where m = 0. */
+static size_t count_cycles(const struct drawing *d, int areas)
+{
+    uint8_t seen[MOST_ENDS] = {0};
+    size_t h, g, count = 0;
+    if (d->m == 0) return 1;
+    for (h = 0; h < 2 * d->m; h++) {
+        if (seen[h]) continue;
+        count++;
+        for (g = h; !seen[g]; g = d->turning[areas ? other(g) : g]) seen[g] = 1;
+    }
+    return count;
+}
+
+size_t count_points(const struct drawing *d)
+{
+    return count_cycles(d, 0);
+}
+
+size_t count_areas(const struct drawing *d)
+{
+    return count_cycles(d, 1);
+}
+
+/* ---- 5: ends are merged along turns and marked borders, and one class must be left ---- */
+
+static size_t class_of(size_t *parent, size_t h)
+{
+    while (parent[h] != h) h = parent[h] = parent[parent[h]];
+    return h;
+}
+
+/* Gives 1 if there were two classes. */
+static size_t merge(size_t *parent, size_t g, size_t h)
+{
+    size_t a = class_of(parent, g), b = class_of(parent, h);
+    parent[a] = b;
+    return a != b;
+}
+
+static int marks_join(const struct drawing *d)
+{
+    size_t parent[MOST_ENDS], h, classes = 2 * d->m;
+    for (h = 0; h < 2 * d->m; h++) parent[h] = h;
+    for (h = 0; h < 2 * d->m; h++) {
+        classes -= merge(parent, h, d->turning[h]);
+        if (marked(d, h)) classes -= merge(parent, h, other(h));
+    }
+    return classes <= 1;
+}
+
+/* ---- 7: all pairs ---- */
+
+/* The places of the even and of the odd end, the lower first. */
+struct places {
+    size_t first, second;
+};
+
+static void find_places(const struct drawing *d, struct places *of)
+{
+    size_t i, h = d->start;
+    for (i = 0; i < d->m; i++) of[i].first = of[i].second = 0;
+    for (i = 1; i <= 2 * d->m; i++) {
+        struct places *border = &of[h / 2];
+        if (border->first == 0) border->first = i;
+        else border->second = i;
+        h = tour_after(d, h);
+    }
+}
+
+/* "a, b, a, b in the tour" */
+static int in_turns(struct places a, struct places b)
+{
+    return a.first < b.first && b.first < a.second && a.second < b.second;
+}
+
+int alternate(const struct drawing *d, size_t a, size_t b)
+{
+    struct places of[MOST_BORDERS];
+    find_places(d, of);
+    return in_turns(of[a], of[b]) || in_turns(of[b], of[a]);
+}
+
+static int some_alternate(const struct drawing *d)
+{
+    struct places of[MOST_BORDERS];
+    size_t a, b;
+    find_places(d, of);
+    for (a = 0; a < d->m; a++)
+        for (b = 0; b < d->m; b++)
+            if (!d->marks[a] && !d->marks[b] && in_turns(of[a], of[b])) return 1;
+    return 0;
+}
+
+uint8_t drawing_refusal(const struct drawing *d)
+{
+    size_t e, marks = 0;
+    if (!in_range(d)) return 3;
+    if (!entries_differ(d)) return 4;
+    if (!marks_join(d)) return 5;
+    for (e = 0; e < d->m; e++) marks += d->marks[e];
+    if (marks > count_points(d) - 1) return 6;
+    if (some_alternate(d)) return 7;
+    return 0;
+}
+
+uint8_t pack_refusal(const struct lent *lent, struct drawing *d)
+{
+    size_t i;
+    if (lent->turning_len % 2 == 1 || lent->turning_len > 4096 || lent->marks_len != lent->turning_len / 2) return 1;
+    if (lent->work_len < 6 * lent->marks_len || lent->out_len < 1029) return 2;
+    d->m = lent->marks_len;
+    d->start = lent->start;
+    for (i = 0; i < lent->turning_len; i++) d->turning[i] = lent->turning[i];
+    for (i = 0; i < lent->marks_len; i++) d->marks[i] = lent->marks[i];
+    return drawing_refusal(d);
+}
+
+/* ---- 8 to 12, and unpacking ---- */
+
+static int bit_of(const uint8_t *string, size_t i)
+{
+    return string[i / 8] >> i % 8 & 1;
+}
+
+size_t bytes_of(size_t bits)
+{
+    return bits / 8 + (bits % 8 != 0);
+}
+
+static int unused_is_zero(const uint8_t *string, size_t bits)
+{
+    size_t i;
+    for (i = bits; i < 8 * bytes_of(bits); i++)
+        if (bit_of(string, i)) return 0;
+    return 1;
+}
+
+static int balanced(const uint8_t *string, size_t bits)
+{
+    size_t i, open = 0;
+    for (i = 0; i < bits; i++) {
+        if (!bit_of(string, i)) open++;
+        else if (open == 0) return 0;
+        else open--;
+    }
+    return open == 0;
+}
+
+/*
+ * "Unpacking numbers borders by their first places. The first place is the even end, the start is 0." A second place
+ * belongs to the border of its string that was begun last and has none yet. The tour then gives the turning list.
+ */
+static void draw(struct drawing *d, size_t m, const uint8_t *a, const uint8_t *b, const uint8_t *b_star)
+{
+    static size_t end_at[MOST_ENDS], begun[2][MOST_BORDERS];
+    size_t depth[2] = {0, 0}, read[2] = {0, 0}, borders = 0, i;
+
+    d->m = m;
+    d->start = 0;
+    for (i = 0; i < 2 * m; i++) {
+        int kind = bit_of(a, i);
+        if (bit_of(kind ? b : b_star, read[kind]++) == 0) {
+            d->marks[borders] = (uint8_t)kind;
+            begun[kind][depth[kind]++] = borders;
+            end_at[i] = 2 * borders;
+            borders++;
+        } else {
+            end_at[i] = 2 * begun[kind][--depth[kind]] + 1;
+        }
+    }
+    for (i = 0; i < 2 * m; i++) {
+        size_t h = end_at[i], next = end_at[i + 1 < 2 * m ? i + 1 : 0];
+        d->turning[marked(d, h) ? other(h) : h] = (uint16_t)next;
+    }
+}
+
+uint8_t unpack(const uint8_t *map, size_t length, struct drawing *d)
+{
+    size_t m, n, i, ones = 0, bits_a, bits_b, bits_b_star;
+    const uint8_t *a, *b, *b_star;
+
+    if (length < 4) return 8;
+    m = map[0] + 256u * map[1];
+    n = map[2] + 256u * map[3];
+    if (m > MOST_BORDERS || n < 1 || n > m + 1) return 8;
+    bits_a = 2 * m;
+    bits_b = 2 * n - 2;
+    bits_b_star = 2 * (m + 1 - n);
+    if (length != 4 + bytes_of(bits_a) + bytes_of(bits_b) + bytes_of(bits_b_star)) return 9;
+    a = map + 4;
+    b = a + bytes_of(bits_a);
+    b_star = b + bytes_of(bits_b);
+    if (!unused_is_zero(a, bits_a) || !unused_is_zero(b, bits_b) || !unused_is_zero(b_star, bits_b_star)) return 10;
+    for (i = 0; i < bits_a; i++) ones += (size_t)bit_of(a, i);
+    if (ones != bits_b) return 11;
+    if (!balanced(b, bits_b) || !balanced(b_star, bits_b_star)) return 12;
+    draw(d, m, a, b, b_star);
+    return 0;
+}

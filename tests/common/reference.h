@@ -1,0 +1,99 @@
+/*
+ * Document 01 once more, from the drawing's side: what is wrong with a drawing or with a card, the drawing that bytes unpack
+ * to, and the drawing's book. Written from document 01 alone, so that the library can be compared with it; slow and plain on
+ * purpose, and where there is a choice not in the library's way: marks are followed by merging points, 7 is looked for in
+ * all pairs.
+ */
+#ifndef REFERENCE_H
+#define REFERENCE_H
+
+#include <stddef.h>
+#include <stdint.h>
+
+enum { MOST_BORDERS = 2048, MOST_ENDS = 2 * MOST_BORDERS, LONGEST = 1029 };
+
+/* "The drawing": border e has the ends 2e and 2e+1; turning[h] follows end h counterclockwise about its point. */
+struct drawing {
+    size_t m;
+    uint16_t turning[MOST_ENDS];
+    uint8_t marks[MOST_BORDERS];
+    size_t start;
+};
+
+/* "The drawing's book": the drawing and its tour. Places, points and areas count from 1. */
+struct book {
+    const struct drawing *drawing;
+    size_t n, areas;
+    size_t place_of[MOST_ENDS];    /* end to place */
+    size_t end_at[MOST_ENDS + 1];  /* place to end */
+    size_t end_before[MOST_ENDS];  /* the end whose entry is h */
+    size_t point_of[MOST_ENDS], area_of[MOST_ENDS];
+    size_t point_first[MOST_BORDERS + 2], degree[MOST_BORDERS + 2];
+    size_t area_first[MOST_BORDERS + 2], sides[MOST_BORDERS + 2];
+};
+
+/* The other end of a border; whether an end's border is marked. */
+size_t other(size_t h);
+int marked(const struct drawing *d, size_t h);
+
+/* "The tour": after a marked end comes the entry of its other end, after an unmarked end its own entry. */
+size_t tour_after(const struct drawing *d, size_t h);
+
+/* How many bytes so many bits take, from a fresh byte. */
+size_t bytes_of(size_t bits);
+
+/* What a call gives: status 0 and a value, or document 01's number. */
+struct reply {
+    uint8_t status;
+    size_t value;
+};
+
+/* The first of 3 to 7 that applies to a drawing whose lists have the right lengths; 0 where none does. */
+uint8_t drawing_refusal(const struct drawing *d);
+
+/* What packing is lent: lists of any length. */
+struct lent {
+    const uint16_t *turning;
+    size_t turning_len;
+    const uint8_t *marks;
+    size_t marks_len;
+    size_t start;
+    size_t work_len, out_len;
+};
+
+/* The first of 1 to 7 that applies; 0 where none does. Unless it is 1 or 2, the lists are laid out as a drawing. */
+uint8_t pack_refusal(const struct lent *lent, struct drawing *d);
+
+/* The number of points, and of area walks (1 if m = 0), of a drawing that passes 3 and 4. */
+size_t count_points(const struct drawing *d);
+size_t count_areas(const struct drawing *d);
+
+/* Whether borders a and b alternate in the tour of a drawing that passes 3 to 6. */
+int alternate(const struct drawing *d, size_t a, size_t b);
+
+/* The first of 8 to 12 that applies to the bytes; 0 where none does, and then the drawing that they unpack to. */
+uint8_t unpack(const uint8_t *map, size_t length, struct drawing *d);
+
+/* The book of a drawing that drawing_refusal accepts. Gives 0 if its tour does not meet every end once, else 1. */
+int make_book(const struct drawing *d, struct book *b);
+
+/* The bytes of a packed drawing, by its tour. Gives their length. */
+size_t pack(const struct book *b, uint8_t *map);
+
+/* "that drawing so renumbered": borders by their first places, the first place is the even end, the start is 0. */
+void renumber_by_tour(const struct book *b, struct drawing *renumbered);
+
+struct reply book_cross(const struct book *b, size_t place);
+struct reply book_turn(const struct book *b, size_t place);
+struct reply book_turn_back(const struct book *b, size_t place);
+struct reply book_along(const struct book *b, size_t place);
+struct reply book_point(const struct book *b, size_t place);
+struct reply book_area(const struct book *b, size_t place);
+struct reply book_point_first(const struct book *b, size_t point);
+struct reply book_degree(const struct book *b, size_t point);
+struct reply book_area_first(const struct book *b, size_t area);
+struct reply book_sides(const struct book *b, size_t area);
+struct reply book_neighbours(const struct book *b, size_t area);
+struct reply book_joining(const struct book *b, size_t u, size_t v);
+
+#endif

@@ -1,0 +1,181 @@
+/*
+ * Packing and unpacking on top of the reference, to test the test program: with FAULT 0 in the environment nothing may
+ * differ, and with each FAULT here, a mistake that a library could make, something must.
+ */
+#include "shim.h"
+
+#include <string.h>
+
+#include "examples.h"
+#include "pmap.h"
+#include "reference.h"
+
+static struct drawing drawing;
+static struct book book;
+
+/* ---- packing: the status ---- */
+
+static int has_equal(const struct lent *lent)
+{
+    size_t g, h;
+    for (g = 0; g < lent->turning_len; g++)
+        for (h = 0; h < g; h++)
+            if (lent->turning[g] == lent->turning[h]) return 1;
+    return 0;
+}
+
+static size_t count_marks(void)
+{
+    size_t e, marks = 0;
+    for (e = 0; e < drawing.m; e++) marks += drawing.marks[e];
+    return marks;
+}
+
+static void change_lent(struct lent *lent)
+{
+    static uint8_t marks[MOST_BORDERS];
+    size_t e;
+    if (FAULT == 21) lent->out_len++;                                    /* takes an output of 1,028 */
+    if (FAULT == 22) lent->work_len++;                                   /* takes a working list that is one short */
+    if (FAULT == 23) lent->start %= 65536;                               /* cuts the start to 16 bits */
+    if (FAULT == 24 && lent->start < lent->turning_len) lent->start = 0; /* begins at end 0 whatever the start */
+    if (FAULT == 25 && lent->out_len == 1029) lent->out_len--;           /* wants more output than 1,029 bytes */
+    if (FAULT != 34 || lent->marks_len > MOST_BORDERS) return;
+    for (e = 0; e < lent->marks_len; e++) marks[e] = lent->marks[e] != 0;
+    lent->marks = marks; /* takes every mark over 0 for 1 */
+}
+
+static uint8_t changed_status(const struct lent *lent, uint8_t status)
+{
+    if (FAULT == 26 && status == 6 && make_book(&drawing, &book)) return 0;              /* the tree by the tour's length */
+    if (FAULT == 27 && status == 6) return 5;                                            /* no 6 beside 5 */
+    if (FAULT == 28 && status == 3 && has_equal(lent)) return 4;                         /* tests 4 before 3 */
+    if (FAULT == 29 && status == 7) return 0;                                            /* does not look for 7 */
+    if (FAULT == 30 && lent->turning_len == 4098) return 2;                              /* takes lists of 4,098 as fitting */
+    if (FAULT == 31 && lent->marks_len == 0 && status == 0) return 5;                    /* declines the empty drawing */
+    if (FAULT == 32) return status == 0 ? 7 : status;                                    /* declines every drawing */
+    if (FAULT == 33 && status == 5 && count_marks() >= count_points(&drawing)) return 6; /* tests 6 before 5 */
+    return status;
+}
+
+/* ---- packing: the pair ---- */
+
+static uint32_t carry(uint8_t status, size_t a, size_t b)
+{
+    return status | (uint32_t)a << 8 | (uint32_t)b << 20;
+}
+
+static uint32_t with_pair(uint8_t status)
+{
+    size_t a, b, marks;
+    if (FAULT == 41 && status == 5) return carry(5, 1, 0); /* a border beside another refusal */
+    if (status != 7) return status;
+    if (FAULT == 42) return 7; /* no pair */
+    for (a = 0; a < drawing.m; a++)
+        for (b = a + 1; b < drawing.m; b++) {
+            marks = (size_t)drawing.marks[a] + drawing.marks[b];
+            if (FAULT == 44 && marks == 0) return carry(7, a, b); /* a pair that need not alternate */
+            if (marks == 2 || !alternate(&drawing, a, b)) continue;
+            if (FAULT == 45 && marks == 1) return carry(7, a, b); /* a marked border in the pair */
+            if (FAULT == 43 && marks == 0) return carry(7, b, a); /* larger first */
+            if (marks == 0) return carry(7, a, b);
+        }
+    return 7;
+}
+
+/* ---- packing: memory ---- */
+
+static void leave_work(const struct lent *lent, uint16_t *work, uint8_t status)
+{
+    size_t entries = 6 * lent->marks_len;
+    if (FAULT == 51 && status == 3) memset(work, 0, 2 * entries); /* clears it with 3 */
+    if (status != 0 && status <= 3) return;
+    if (FAULT == 52 && status == 4) return;                 /* leaves it as it was with 4 */
+    if (FAULT == 53 && status == 0) return;                 /* leaves it as it was where the map is written */
+    if (FAULT == 54 && entries > 0) entries--;              /* clears one entry too few */
+    if (FAULT == 55 && lent->work_len > entries) entries++; /* clears one entry too many */
+    if (FAULT == 56) entries = lent->work_len;              /* clears all of it */
+    if (entries > lent->work_len) entries = lent->work_len;
+    if (entries > 0) memset(work, 0, 2 * entries);
+}
+
+static void write_map(const struct lent *lent, uint8_t *out, uint16_t *length)
+{
+    uint8_t map[LONGEST + 1] = {0};
+    size_t i;
+    make_book(&drawing, &book);
+    *length = (uint16_t)pack(&book, map);
+    if (FAULT == 61) ++*length;                                                    /* one too long */
+    if (FAULT == 62) return;                                                       /* writes nothing */
+    for (i = 0; i < *length; i++) out[i] = FAULT == 63 ? out[i] | map[i] : map[i]; /* what the output held shows through */
+    if (FAULT == 64 && *length < lent->out_len) out[*length] = 0;                  /* one byte beyond the map */
+    if (FAULT == 65) memcpy(out, triangle, sizeof triangle);                       /* the triangle's bytes for all */
+    if (FAULT == 66) out[lent->out_len] = 0;                                       /* one byte beyond the output */
+    if (FAULT == 67) memset(out + *length, 0, LONGEST - *length);                  /* clears 1,029 bytes */
+    if (FAULT == 68) out[1] = 0;                                                   /* m in one byte */
+}
+
+uint32_t pmap_pack(const uint16_t *turning, size_t turning_len, const uint8_t *marks, size_t marks_len, size_t start,
+                   uint16_t *work, size_t work_len, uint8_t *out, size_t out_len, uint16_t *length)
+{
+    struct lent lent = {turning, turning_len, marks, marks_len, start, work_len, out_len}, changed = lent;
+    uint8_t status;
+    change_lent(&changed);
+    if (FAULT == 71 && turning_len > 8) status = ((const volatile uint8_t *)turning)[2 * turning_len]; /* reads past the list */
+    status = changed_status(&changed, pack_refusal(&changed, &drawing));
+    if (FAULT == 72 && turning_len > 8 && status > 4) ((uint16_t *)turning)[0] ^= 1; /* changes the turning list */
+    if (FAULT == 73 && status != 0) *length = 0;                                     /* writes the length on a refusal */
+    if (FAULT == 74 && status == 7) out[0] = marks_len % 256;                        /* writes before 7 is found */
+    leave_work(&lent, work, status);
+    if (status == 0) write_map(&lent, out, length);
+    return with_pair(status);
+}
+
+/* ---- unpacking ---- */
+
+static uint8_t unpack_status(const uint8_t *map, size_t map_len, size_t turning_len, size_t marks_len)
+{
+    uint8_t status = unpack(map, map_len, &drawing);
+    if (FAULT == 81 && map_len >= 2 && turning_len < 2 * map[0]) return 16;           /* tests 16 first */
+    if (FAULT == 82 && status == 10) status = 11;                                     /* does not test unused bits */
+    if (FAULT == 83 && status == 8 && map_len >= 4 && map[2] == map[0] + 2) return 9; /* takes n = m+2 */
+    if (status != 0) return status;
+    if (FAULT == 84) turning_len--; /* wants more than 2m entries */
+    if (FAULT == 85) turning_len++; /* takes one entry fewer */
+    if (FAULT == 86) marks_len++;   /* takes one mark fewer */
+    return turning_len + 1 < 2 * drawing.m + 1 || marks_len < drawing.m ? 16 : 0;
+}
+
+/* Another drawing than the one that is asked for. */
+static void change_drawing(void)
+{
+    static struct drawing right;
+    size_t h;
+    right = drawing;
+    for (h = 0; h < 2 * drawing.m; h++) {
+        if (FAULT == 91) drawing.turning[right.turning[h]] = (uint16_t)h;               /* turns the other way */
+        if (FAULT == 92) drawing.turning[other(h)] = (uint16_t)other(right.turning[h]); /* the first place is the odd end */
+        if (FAULT == 93) drawing.turning[h] = (uint16_t)tour_after(&right, h);          /* the tour for the turning list */
+        if (FAULT == 94) drawing.turning[2 * drawing.m - 1 - h] = (uint16_t)(2 * drawing.m - 1 - right.turning[h]);
+        if (FAULT == 94) drawing.marks[drawing.m - 1 - h / 2] = right.marks[h / 2]; /* numbers borders from the last */
+        if (FAULT == 95) drawing.marks[h / 2] = !right.marks[h / 2];                /* marks the others */
+    }
+}
+
+uint8_t pmap_unpack(const uint8_t *map, size_t map_len, uint16_t *turning, size_t turning_len,
+                    uint8_t *marks, size_t marks_len, uint16_t *m)
+{
+    uint8_t status = unpack_status(map, map_len, turning_len, marks_len);
+    size_t h, e;
+    if (FAULT == 101 && status != 0) *m = 0;                                              /* writes m on a refusal */
+    if (FAULT == 102 && status == 16 && turning_len > 0) turning[0] = drawing.turning[0]; /* writes before 16 is tested */
+    if (status != 0) return status;
+    change_drawing();
+    for (h = 0; h < 2 * drawing.m && h < turning_len; h++) turning[h] = drawing.turning[h];
+    for (e = 0; e < drawing.m && e < marks_len; e++) marks[e] = drawing.marks[e];
+    if (FAULT == 103 && turning_len > 2 * drawing.m) turning[2 * drawing.m] = 0;            /* one entry too many */
+    if (FAULT == 104) memset(marks, 0, marks_len), memcpy(marks, drawing.marks, drawing.m); /* clears all marks */
+    if (FAULT == 105 && drawing.m > 3) marks[marks_len] = 0;                                /* beyond the marks */
+    *m = (uint16_t)(FAULT == 106 ? count_points(&drawing) : drawing.m);                     /* n for m */
+    return 0;
+}
