@@ -1,4 +1,5 @@
 /* (a) The same checks and the same calls, bit by bit in plain C. */
+#include "answers.h"
 #include "calls.h"
 
 struct strings {
@@ -152,18 +153,6 @@ static size_t step(const struct strings *x, int v, size_t p)
     return q < x->places ? q : 0;
 }
 
-static uint8_t open(const uint8_t *map, size_t length, uint16_t *m, uint16_t *n)
-{
-    struct strings x;
-    uint8_t status = refuse(map, length, &x);
-
-    if (status == 0) {
-        *m = (uint16_t)x.m;
-        *n = (uint16_t)x.n;
-    }
-    return status;
-}
-
 static size_t turn(const struct strings *x, size_t p)
 {
     size_t q = mate(x, 1, p);
@@ -178,42 +167,19 @@ static size_t turn_back(const struct strings *x, size_t p)
     return q < p ? q + 1 : 0;
 }
 
-#define PLACE_CALL(name, answer)                                                              \
-    static uint8_t name(const uint8_t *map, size_t length, size_t place, uint16_t *out)       \
-    {                                                                                         \
-        struct strings x;                                                                     \
-        uint8_t status = refuse(map, length, &x);                                             \
-        size_t p = place - 1;                                                                 \
-        if (status == 0 && (place == 0 || place > x.places))                                  \
-            status = 13;                                                                      \
-        if (status == 0)                                                                      \
-            *out = (uint16_t)(answer);                                                        \
-        return status;                                                                        \
-    }
+OPEN_CALL(open, struct strings, refuse)
 
-PLACE_CALL(cross, mate(&x, bit(x.a, p), p) + 1)
-PLACE_CALL(turn_call, turn(&x, p))
-PLACE_CALL(turn_back_call, turn_back(&x, p))
-PLACE_CALL(along, step(&x, 0, p) + 1)
-PLACE_CALL(point, number(&x, 1, p))
-PLACE_CALL(area, number(&x, 0, p))
+PLACE_CALL(cross, struct strings, refuse, mate(&x, bit(x.a, p), p) + 1)
+PLACE_CALL(turn_call, struct strings, refuse, turn(&x, p))
+PLACE_CALL(turn_back_call, struct strings, refuse, turn_back(&x, p))
+PLACE_CALL(along, struct strings, refuse, step(&x, 0, p) + 1)
+PLACE_CALL(point, struct strings, refuse, number(&x, 1, p))
+PLACE_CALL(area, struct strings, refuse, number(&x, 0, p))
 
-#define CELL_CALL(name, v, cells, refusal, answer)                                            \
-    static uint8_t name(const uint8_t *map, size_t length, size_t k, uint16_t *out)           \
-    {                                                                                         \
-        struct strings x;                                                                     \
-        uint8_t status = refuse(map, length, &x);                                             \
-        if (status == 0 && (k == 0 || k > (cells)))                                           \
-            status = refusal;                                                                 \
-        if (status == 0)                                                                      \
-            *out = (uint16_t)(x.m == 0 ? 0 : (answer));                                       \
-        return status;                                                                        \
-    }
-
-CELL_CALL(point_first, 1, x.n, 14, first(&x, 1, k) + 1)
-CELL_CALL(degree, 1, x.n, 14, size(&x, 1, k))
-CELL_CALL(area_first, 0, x.m - x.n + 2, 15, first(&x, 0, k) + 1)
-CELL_CALL(sides, 0, x.m - x.n + 2, 15, size(&x, 0, k))
+CELL_CALL(point_first, struct strings, refuse, x.n, 14, first(&x, 1, k) + 1)
+CELL_CALL(degree, struct strings, refuse, x.n, 14, size(&x, 1, k))
+CELL_CALL(area_first, struct strings, refuse, x.m - x.n + 2, 15, first(&x, 0, k) + 1)
+CELL_CALL(sides, struct strings, refuse, x.m - x.n + 2, 15, size(&x, 0, k))
 
 static uint8_t joining(const uint8_t *map, size_t length, size_t u, size_t v, uint16_t *out)
 {

@@ -1,4 +1,5 @@
 /* (b) The same checks, then plain arrays of half-edges built from the bytes, then the answer by looking it up. */
+#include "answers.h"
 #include "calls.h"
 
 enum { MOST = 4096 };
@@ -83,18 +84,6 @@ static uint8_t build(const uint8_t *map, size_t length, struct arrays *x)
     return depth[0] == 0 && depth[1] == 0 ? 0 : 12;
 }
 
-static uint8_t open(const uint8_t *map, size_t length, uint16_t *m, uint16_t *n)
-{
-    struct arrays x;
-    uint8_t status = build(map, length, &x);
-
-    if (status == 0) {
-        *m = (uint16_t)x.m;
-        *n = (uint16_t)x.n;
-    }
-    return status;
-}
-
 static size_t turn(const struct arrays *x, size_t p)
 {
     size_t q = x->round[p] ? x->mate[p] : p;
@@ -112,42 +101,19 @@ static size_t turn_back(const struct arrays *x, size_t p)
     return q < p ? q + 1 : 0;
 }
 
-#define PLACE_CALL(name, answer)                                                              \
-    static uint8_t name(const uint8_t *map, size_t length, size_t place, uint16_t *out)       \
-    {                                                                                         \
-        struct arrays x;                                                                      \
-        uint8_t status = build(map, length, &x);                                              \
-        size_t p = place - 1;                                                                 \
-        if (status == 0 && (place == 0 || place > x.places))                                  \
-            status = 13;                                                                      \
-        if (status == 0)                                                                      \
-            *out = (uint16_t)(answer);                                                        \
-        return status;                                                                        \
-    }
+OPEN_CALL(open, struct arrays, build)
 
-PLACE_CALL(cross, x.mate[p] + 1)
-PLACE_CALL(turn_call, turn(&x, p))
-PLACE_CALL(turn_back_call, turn_back(&x, p))
-PLACE_CALL(along, x.step[0][p] + 1)
-PLACE_CALL(point, x.cell[1][p])
-PLACE_CALL(area, x.cell[0][p])
+PLACE_CALL(cross, struct arrays, build, x.mate[p] + 1)
+PLACE_CALL(turn_call, struct arrays, build, turn(&x, p))
+PLACE_CALL(turn_back_call, struct arrays, build, turn_back(&x, p))
+PLACE_CALL(along, struct arrays, build, x.step[0][p] + 1)
+PLACE_CALL(point, struct arrays, build, x.cell[1][p])
+PLACE_CALL(area, struct arrays, build, x.cell[0][p])
 
-#define CELL_CALL(name, cells, refusal, answer)                                               \
-    static uint8_t name(const uint8_t *map, size_t length, size_t k, uint16_t *out)           \
-    {                                                                                         \
-        struct arrays x;                                                                      \
-        uint8_t status = build(map, length, &x);                                              \
-        if (status == 0 && (k == 0 || k > (cells)))                                           \
-            status = refusal;                                                                 \
-        if (status == 0)                                                                      \
-            *out = (uint16_t)(x.m == 0 ? 0 : (answer));                                       \
-        return status;                                                                        \
-    }
-
-CELL_CALL(point_first, x.n, 14, x.first[1][k] + 1)
-CELL_CALL(degree, x.n, 14, x.size[1][k])
-CELL_CALL(area_first, x.m - x.n + 2, 15, x.first[0][k] + 1)
-CELL_CALL(sides, x.m - x.n + 2, 15, x.size[0][k])
+CELL_CALL(point_first, struct arrays, build, x.n, 14, x.first[1][k] + 1)
+CELL_CALL(degree, struct arrays, build, x.n, 14, x.size[1][k])
+CELL_CALL(area_first, struct arrays, build, x.m - x.n + 2, 15, x.first[0][k] + 1)
+CELL_CALL(sides, struct arrays, build, x.m - x.n + 2, 15, x.size[0][k])
 
 static uint8_t joining(const uint8_t *map, size_t length, size_t u, size_t v, uint16_t *out)
 {
