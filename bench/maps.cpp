@@ -3,6 +3,8 @@
 //   loops       one point with m loops side by side
 //   nests       borders of both kinds, each string one deep nest
 //   triangles   points put into triangles one after another, as a survey refines areas; a spanning tree by breadth
+//   star        one point with m borders to m others: a point of degree m
+//   path        m borders one after the other
 #include "maps.h"
 
 #include <algorithm>
@@ -10,7 +12,7 @@
 
 #include "calls.h"
 
-const char *const kind_names[KINDS] = { "random", "loops", "nests", "triangles" };
+const char *const kind_names[KINDS] = { "random", "loops", "nests", "triangles", "star", "path" };
 
 static uint64_t state = 88172645463325252ull;
 
@@ -41,6 +43,14 @@ static std::vector<bool> nest(size_t k)
 {
     std::vector<bool> s(2 * k, true);
     std::fill(s.begin(), s.begin() + long(k), false);
+    return s;
+}
+
+static std::vector<bool> side_by_side(size_t k)
+{
+    std::vector<bool> s(2 * k);
+    for (size_t i = 1; i < 2 * k; i += 2)
+        s[i] = true;
     return s;
 }
 
@@ -142,12 +152,12 @@ std::vector<uint8_t> make_map(kind k, size_t m)
         size_t n = m / 2;
         return assemble(m, mixed(2 * n - 2, 2 * m), balanced(n - 1), balanced(m + 1 - n));
     }
-    if (k == LOOPS) {
-        std::vector<bool> s(2 * m);
-        for (size_t i = 0; i < 2 * m; i++)
-            s[i] = i % 2 == 1;
-        return assemble(m, std::vector<bool>(2 * m), {}, s);
-    }
+    if (k == LOOPS)
+        return assemble(m, std::vector<bool>(2 * m), {}, side_by_side(m));
+    if (k == STAR)
+        return assemble(m, std::vector<bool>(2 * m, true), side_by_side(m), {});
+    if (k == PATH)
+        return assemble(m, std::vector<bool>(2 * m, true), nest(m), {});
     if (k == NESTS)
         return assemble(m, mixed(m / 2 * 2, 2 * m), nest(m / 2), nest(m - m / 2));
     drawing d = triangulate(m);

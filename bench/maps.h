@@ -1,4 +1,4 @@
-// Maps to measure on: four kinds, of any number of borders.
+// Maps to measure on: six kinds, of any number of borders.
 #ifndef MAPS_H
 #define MAPS_H
 
@@ -12,7 +12,7 @@ struct drawing {
     std::vector<uint8_t> marks;
 };
 
-enum kind { RANDOM, LOOPS, NESTS, TRIANGLES, KINDS };
+enum kind { RANDOM, LOOPS, NESTS, TRIANGLES, STAR, PATH, KINDS };
 extern const char *const kind_names[KINDS];
 
 size_t below(size_t bound);  // a random number below `bound`, the same in every run

@@ -4,13 +4,15 @@
  *     pack DRAWING CARD
  *
  * DRAWING is a text as `places` reads it: the line `border first second mark`, then for each border its number, the
- * entries of its even and odd end, and its mark. CARD is written only if the drawing is accepted. What is wrong goes to
- * standard error, and the exit status is then 1; it is 2 if the desk was not asked properly.
+ * entries of its even and odd end, and its mark; decimal without leading zeros. CARD is written only if the drawing is
+ * accepted, and only as a whole: it is written beside, as CARD.part, and then renamed. What is wrong goes to standard
+ * error, and the exit status is then 1; it is 2 if the desk was not asked properly.
  */
 #include <errno.h>
 #include <stdio.h>
 #include <stdlib.h>
 #include <string.h>
+#include <sys/stat.h>
 
 #include "pmap.h"
 
@@ -45,19 +47,28 @@ static void stop(const char *path, const char *words)
     exit(1);
 }
 
+/* The text is not as it should be; or what is missing of it could not be read. */
+static void refuse_text(const char *path, FILE *file, const char *words)
+{
+    if (ferror(file))
+        stop(path, "the drawing can't be read");
+    fprintf(stderr, "pack: %s: %s (refusal 17)\n", path, words);
+    exit(1);
+}
+
 /* The next number of a line, at most `most`, and the byte after it. */
 static unsigned long read_number(const char *path, FILE *file, unsigned long most, int after)
 {
     unsigned long number = 0;
-    int c = getc(file), digits = 0;
+    int first = getc(file), c = first, digits = 0;
 
     while (c >= '0' && c <= '9' && number <= most) {
         number = 10 * number + (unsigned long)(c - '0');
         digits++;
         c = getc(file);
     }
-    if (digits == 0 || number > most || c != after)
-        stop(path, "a line is not a border's number, two entries and a mark");
+    if (digits == 0 || (first == '0' && digits > 1) || number > most || c != after)
+        refuse_text(path, file, "a line is not a border's number, two entries and a mark");
     return number;
 }
 
@@ -73,30 +84,54 @@ static size_t read_drawing(const char *path)
     if (file == NULL)
         stop(path, strerror(errno));
     if (fgets(line, sizeof line, file) == NULL || strcmp(line, names) != 0)
-        stop(path, "the first line is not 'border first second mark'");
+        refuse_text(path, file, "the first line is not 'border first second mark'");
     while ((c = getc(file)) != EOF) {
         ungetc(c, file);
         if (m == BORDERS)
-            stop(path, "there are more than 2,048 borders");
+            refuse_text(path, file, "there are more than 2,048 borders");
         if (read_number(path, file, BORDERS, ' ') != m)
-            stop(path, "the borders are not numbered in order, from 0");
+            refuse_text(path, file, "the borders are not numbered in order, from 0");
         turning[2 * m] = (uint16_t)read_number(path, file, UINT16_MAX, ' ');
         turning[2 * m + 1] = (uint16_t)read_number(path, file, UINT16_MAX, ' ');
         marks[m] = (uint8_t)read_number(path, file, UINT8_MAX, '\n');
         m++;
     }
+    if (ferror(file))
+        stop(path, "the drawing can't be read");
     fclose(file);
     return m;
 }
 
-static void write_card(const char *path, const uint8_t *card, size_t length)
+/* Writes `card` to a new file; 0 if all of it is there. */
+static int write_file(const char *path, const uint8_t *card, size_t length)
 {
     FILE *file = fopen(path, "wb");
+    int failed;
 
     if (file == NULL)
+        return 1;
+    failed = fwrite(card, 1, length, file) != length;
+    return fclose(file) != 0 || failed;
+}
+
+/* The card at `path` is the old one or the new one at every moment, and never a part of one. */
+static void write_card(const char *path, const uint8_t *card, size_t length)
+{
+    size_t size = strlen(path) + sizeof ".part";
+    char *part = malloc(size);
+    struct stat there;
+
+    if (part == NULL)
         stop(path, strerror(errno));
-    if (fwrite(card, 1, length, file) != length || fclose(file) != 0)
-        stop(path, "the card can't be written");
+    if (stat(path, &there) == 0 && !S_ISREG(there.st_mode))
+        stop(path, "this is not a file to write a card to");
+    snprintf(part, size, "%s.part", path);
+    if (write_file(part, card, length) != 0 || rename(part, path) != 0) {
+        int error = errno;
+        remove(part);
+        stop(path, strerror(error));
+    }
+    free(part);
 }
 
 int main(int argc, char **argv)

@@ -4,8 +4,8 @@
  *     quote CARD AREA
  *
  * CARD is a file with the bytes of a packed map, AREA an area number from 1. One line for each side of the area goes to
- * standard output. What is wrong with a card or a number goes to standard error, and the exit status is then 1; it is 2
- * if the box was not asked properly.
+ * standard output. What is wrong with a card or a number, and that the output can't be written, goes to standard error, and
+ * the exit status is then 1; it is 2 if the box was not asked properly.
  */
 #include <errno.h>
 #include <stdio.h>
@@ -91,6 +91,15 @@ static void print_side(const char *path, const struct card *card, size_t place)
     printf("place %zu: across lies area %u\n", place, (unsigned)beyond);
 }
 
+/* What was printed has gone out, or the box does not say that all is well. */
+static int finish_output(void)
+{
+    if (fflush(stdout) == 0 && !ferror(stdout))
+        return 0;
+    fprintf(stderr, "quote: standard output can't be written\n");
+    return 1;
+}
+
 int main(int argc, char **argv)
 {
     static struct card card;
@@ -113,12 +122,12 @@ int main(int argc, char **argv)
 
     if (first == 0) {
         printf("the map has no borders\n");
-        return 0;
+        return finish_output();
     }
     place = first;
     do {
         print_side(path, &card, place);
         stop_if_refused(path, pmap_along(card.bytes, card.length, place, &place));
     } while (place != first);
-    return 0;
+    return finish_output();
 }

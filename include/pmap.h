@@ -1,10 +1,10 @@
 /*
  * pmap.h - packed maps of rating areas: packing a drawing and unpacking a map; opening, moves, counts and the joining
- * border on the bytes of a map.
+ * border on the bytes of a map. Link with libpmap.a (`rt staticlib pmap`).
  *
- * Link with libpmap.a (`rt staticlib pmap`). Every function is proved to meet what stands here, for all bytes and all
- * numbers, as long as the caller keeps to "Memory" below. Nothing is kept between calls, nothing is allocated, no
- * function calls back, and there is no global state: calls may run in several threads at once.
+ * Proved. For all bytes and all numbers, and as long as the caller keeps to "Memory" below, every function ends, touches no
+ * other memory, and answers and leaves in the memory it was lent what stands here. Not proved: "Time", "Stack" and
+ * "Threads" below, which say what was measured and how the functions are built.
  *
  * Words. A map has m borders (0 to 2,048), n points (1 to m+1) and m-n+2 areas. Each border has two places, so that the
  * places are 1 to 2m. Points are 1 to n, areas are 1 to m-n+2. The three kinds of numbers are not to be mixed up: place
@@ -17,8 +17,8 @@
  *
  * Status. Every function returns 0 (PMAP_OK) and writes its answer, or it returns the number of the first check that
  * fails, in the order of the list below, and then it has written nothing: every out cell and every out list holds what
- * it held before. pmap_pack returns two border numbers beside the status, and says what it leaves in its working list.
- * Every call on a map runs the checks 8 to 12 on the whole map first. It costs time in proportion to map_len.
+ * it held before. Every call on a map runs the checks 8 to 12 on the whole map first. pmap_pack returns two border numbers
+ * beside the status, and says what it leaves in its working list.
  *
  * Memory. `map` points to map_len readable bytes, with no alignment asked for; it may be NULL if map_len is 0. So it is
  * with every list: turning_len, marks_len, work_len and out_len count entries, the list may be NULL if it has none, and
@@ -26,6 +26,17 @@
  * uint16_t. All memory stays the caller's: nothing is kept, freed or handed over. The lists and the cells that are lent
  * to one call must not overlap one another, and no other thread may write any of them during the call, or read those
  * that are not const.
+ *
+ * Time. pmap_pack takes time in proportion to m, a call on a map in proportion to map_len, but for two: pmap_joining makes
+ * a pass over the map for each place about u that it looks at, and pmap_unpack one for each end, so that at worst their
+ * time grows with the square of map_len. docs/SPEED.md has the times measured.
+ *
+ * Stack. No function recurses or allocates. The deepest call was measured at 656 bytes below its caller's frame (libpmap.a
+ * of this toolchain, x86-64); a host that leaves PMAP_STACK bytes has more than three times that. tests/host measures it
+ * again at each run.
+ *
+ * Threads. Nothing is kept between calls, there is no global state, and no function calls back: calls may run in several
+ * threads at once.
  */
 #ifndef PMAP_H
 #define PMAP_H
@@ -63,23 +74,30 @@ enum {
 /* The greatest number of borders: a turning list has at most twice as many entries. */
 #define PMAP_MOST_BORDERS 2048
 
-/* What pmap_pack returns, taken apart: the status, and with PMAP_CROSSING the two borders, the smaller first. */
+/* Bytes of stack that are enough for every call: see "Stack". */
+#define PMAP_STACK 2048
+
+/*
+ * What pmap_pack returns, taken apart: the status, and with PMAP_CROSSING the two borders, the smaller first. A crossing is
+ * PMAP_STATUS(packed) == PMAP_CROSSING; packed == PMAP_CROSSING is never true, since two border numbers stand above it.
+ */
 #define PMAP_STATUS(packed) ((uint8_t)((packed) & 0xff))
 #define PMAP_SMALLER(packed) ((uint16_t)((packed) >> 8 & 0xfff))
 #define PMAP_LARGER(packed) ((uint16_t)((packed) >> 20 & 0xfff))
 
 /*
  * Packs a drawing: writes the bytes of its map to the beginning of `out`, and their number, at most 1,029, to *length.
- * Nothing after them is touched. m is marks_len, and turning_len is to be 2m. It costs time in proportion to m.
+ * Nothing after them is touched. m is marks_len, and turning_len is to be 2m.
  *
  * `work` is a working list of at least 6m entries, whatever they hold. With 1, 2 and 3 it is left as it was. After any
  * other outcome, success too, its first 6m entries are 0 and the rest is as it was. `out` has at least PMAP_LONGEST
  * bytes, however small the drawing. With any refusal `out` and *length are left as they were.
  *
- * Status: 0, 1, 2, 3, 4, 5, 6, 7, in the low 8 bits of what is returned. With 7 it carries two unmarked borders that
- * alternate in the tour, some such pair if there are several; PMAP_STATUS, PMAP_SMALLER and PMAP_LARGER take it apart.
+ * Returns a word to be taken apart by PMAP_STATUS, PMAP_SMALLER and PMAP_LARGER: 0, or the refusal in the low 8 bits. With 7
+ * it carries two unmarked borders that alternate in the tour, some such pair if there are several: bits 8 to 19 hold the
+ * smaller, bits 20 to 31 the larger. Otherwise those bits are 0.
+ * Status: 0, 1, 2, 3, 4, 5, 6, 7.
  */
-/* low 8 bits: 0 or the refusal; with 7, bits 8 to 19 hold the smaller border and bits 20 to 31 the larger; else those bits are 0 */
 uint32_t pmap_pack(const uint16_t *turning, size_t turning_len, const uint8_t *marks, size_t marks_len, size_t start,
                    uint16_t *work, size_t work_len, uint8_t *out, size_t out_len, uint16_t *length);
 
@@ -87,10 +105,11 @@ uint32_t pmap_pack(const uint16_t *turning, size_t turning_len, const uint8_t *m
  * Unpacks a map: writes its drawing to the first 2m entries of `turning` and the first m of `marks`, and the number of
  * borders to *m. Nothing after them is touched. Borders are numbered by their first places, the first place of a border
  * is its even end, and the start is end 0: packing that drawing from there gives the same map again. With any refusal
- * both lists and *m are left as they were. It costs time in proportion to the square of map_len.
+ * both lists and *m are left as they were.
  * Status: 0, 8, 9, 10, 11, 12, 16.
  */
-uint8_t pmap_unpack(const uint8_t *map, size_t map_len, uint16_t *turning, size_t turning_len, uint8_t *marks, size_t marks_len, uint16_t *m);
+uint8_t pmap_unpack(const uint8_t *map, size_t map_len, uint16_t *turning, size_t turning_len, uint8_t *marks,
+                    size_t marks_len, uint16_t *m);
 
 /*
  * Opens a map: checks its bytes, and writes the number of borders to *m and the number of points to *n.
@@ -99,56 +118,69 @@ uint8_t pmap_unpack(const uint8_t *map, size_t map_len, uint16_t *turning, size_
 uint8_t pmap_open(const uint8_t *map, size_t map_len, uint16_t *m, uint16_t *n);
 
 /*
- * The moves: from a place to a place.
+ * A move: the place on the other side of the border, which is the place of the border's other end.
  * Status: 0, 8, 9, 10, 11, 12, 13.
  */
-
-/* The place on the other side of the border: the place of the border's other end. */
 uint8_t pmap_cross(const uint8_t *map, size_t map_len, size_t place, uint16_t *out);
 
-/* The next place counterclockwise about the point; 0 at the point's last place. */
+/*
+ * A move: the next place counterclockwise about the point; 0 at the point's last place.
+ * Status: 0, 8, 9, 10, 11, 12, 13.
+ */
 uint8_t pmap_turn(const uint8_t *map, size_t map_len, size_t place, uint16_t *out);
 
-/* The place before this one about the point; 0 at the point's first place. */
+/*
+ * A move: the place before this one about the point; 0 at the point's first place.
+ * Status: 0, 8, 9, 10, 11, 12, 13.
+ */
 uint8_t pmap_turn_back(const uint8_t *map, size_t map_len, size_t place, uint16_t *out);
 
-/* The next place on the walk along the borders of the area. The walk is closed: it is never 0. */
+/*
+ * A move: the next place on the walk along the borders of the area. The walk is closed: it is never 0.
+ * Status: 0, 8, 9, 10, 11, 12, 13.
+ */
 uint8_t pmap_along(const uint8_t *map, size_t map_len, size_t place, uint16_t *out);
 
 /*
- * The numbers of a place.
+ * The point at which the place is.
  * Status: 0, 8, 9, 10, 11, 12, 13.
  */
-
-/* The point at which the place is. */
 uint8_t pmap_point(const uint8_t *map, size_t map_len, size_t place, uint16_t *out);
 
-/* The area that the place borders. What lies across the border is the area of pmap_cross's answer. */
+/*
+ * The area that the place borders. What lies across the border is the area of pmap_cross's answer.
+ * Status: 0, 8, 9, 10, 11, 12, 13.
+ */
 uint8_t pmap_area(const uint8_t *map, size_t map_len, size_t place, uint16_t *out);
 
 /*
- * Of a point.
+ * The point's first place, its lowest; 0 if the map has no borders.
  * Status: 0, 8, 9, 10, 11, 12, 14.
  */
-
-/* The point's first place, its lowest; 0 if the map has no borders. */
 uint8_t pmap_point_first(const uint8_t *map, size_t map_len, size_t point, uint16_t *out);
 
-/* How many places the point has: its degree. A border with both ends at the point counts twice. */
+/*
+ * How many places the point has: its degree. A border with both ends at the point counts twice.
+ * Status: 0, 8, 9, 10, 11, 12, 14.
+ */
 uint8_t pmap_degree(const uint8_t *map, size_t map_len, size_t point, uint16_t *out);
 
 /*
- * Of an area.
+ * The area's first place, its lowest; 0 if the map has no borders.
  * Status: 0, 8, 9, 10, 11, 12, 15.
  */
-
-/* The area's first place, its lowest; 0 if the map has no borders. */
 uint8_t pmap_area_first(const uint8_t *map, size_t map_len, size_t area, uint16_t *out);
 
-/* How many places the area has: its sides. A border with the area on both sides counts twice. */
+/*
+ * How many places the area has: its sides. A border with the area on both sides counts twice.
+ * Status: 0, 8, 9, 10, 11, 12, 15.
+ */
 uint8_t pmap_sides(const uint8_t *map, size_t map_len, size_t area, uint16_t *out);
 
-/* The area's neighbour count, which is its number of sides. */
+/*
+ * The area's neighbour count, which is its number of sides.
+ * Status: 0, 8, 9, 10, 11, 12, 15.
+ */
 uint8_t pmap_neighbours(const uint8_t *map, size_t map_len, size_t area, uint16_t *out);
 
 /*

@@ -48,6 +48,15 @@ def balanced(bits):
     return int(depth == 0)
 
 
+def scan(bits, n, p, waiting):
+    """How many brackets are not passed, and how many wait."""
+    for q in range(p, n):
+        if bits[q] and not waiting:
+            return [n - q, 0]
+        waiting += 1 - 2 * bits[q]
+    return [0, waiting]
+
+
 def row(bits, inner, closing, n):
     v, i = n % 3, n // 2
     places = [p for p in range(n) if bits[p] == v]
@@ -57,14 +66,19 @@ def row(bits, inner, closing, n):
         partner = max(inner[i] - 1, 0)
     position = places[n // 4] if n // 4 < len(places) else n
     zero = int(not any(bits[n:]))
-    return [len(places), position, zero, bits[i], partner, inner[i], balanced(bits[:n]), int(n > 8)]
+    run = bits[n:n + min(n % 30, 24)]
+    counts = [len(places), position, zero]
+    counts += [sum(bit << k for k, bit in enumerate(run)), run.count(v), sum(bits[n // 8 * 8 + k] << k for k in range(8))]
+    counts += [-(-n // 8), min(n, 1000)]
+    brackets = [bits[i], partner, inner[i], balanced(bits[:n])] + scan(bits, n, i, min(n // 8, i)) + scan(bits, i + n % 24, i, i)
+    return counts + brackets + [int(n > 8)]
 
 
 bits = string()
 with open("stdin", "wb") as out:
     out.write(bytes(sum(bits[8 * k + r] << r for r in range(8)) for k in range(512)))
 bits[2000], bits[1000] = 1, 0
-bits += [0] * 104
+bits += [0] * 160
 inner, closing = stacks(bits)
 n = 0
 with open("stdout", "w") as out:

@@ -2,8 +2,8 @@
 
 passed=0
 failed=0
-check() { # WORDS STATUS
-    if [ "$2" -eq 0 ]; then passed=$((passed + 1)); else failed=$((failed + 1)); echo "$name: $1"; fi
+check() { # STATUS WORDS: the status first, since words may hold a $(..) that sets $? anew
+    if [ "$1" -eq 0 ]; then passed=$((passed + 1)); else failed=$((failed + 1)); echo "$name: $2"; fi
 }
 finish() {
     echo "$passed passed, $failed failed"
@@ -20,13 +20,13 @@ begin() {
     local tool
     for tool in rt gcc nm; do
         if ! command -v "$tool" >/dev/null; then
-            check "$tool is not on the PATH: the host-side tests need it, and nothing was tested" 1
+            check 1 "$tool is not on the PATH: the host-side tests need it, and nothing was tested"
             finish
         fi
     done
     mkdir -p "$work" || exit 1
     tests/common/build
-    check "there is no $library" $?
+    check $? "there is no $library"
     [ -f "$library" ] || finish
 }
 
@@ -38,7 +38,7 @@ compile() { # FILE.c..
     for file in "$@"; do
         object=$work/$(basename "$file" .c).o
         gcc "${flags[@]}" -c -o "$object" "$file"
-        check "$file can't be compiled" $?
+        check $? "$file can't be compiled"
         parts+=("$object")
         sources+=("$file")
     done
@@ -49,16 +49,16 @@ try_faults() { # FAULTS FILE.c..
     local faults=$1 fault status
     shift
     gcc "${flags[@]}" -o "$work/shim" "${parts[@]}" "$@"
-    check "the comparison can't be linked with $*" $?
+    check $? "the comparison can't be linked with $*"
     for fault in 0 $faults; do
         FAULT=$fault "$work/shim" small >"$work/shim.log" 2>&1
         status=$?
         if [ "$fault" -eq 0 ]; then
             [ $status -eq 0 ] || tail -n 20 "$work/shim.log"
-            check "the comparison finds differences where there are none" $status
+            check $status "the comparison finds differences where there are none"
         else
             [ $status -ne 0 ] && grep -q 'differs' "$work/shim.log"
-            check "the comparison does not notice FAULT $fault" $?
+            check $? "the comparison does not notice FAULT $fault"
         fi
     done
 }
@@ -74,22 +74,22 @@ compare() { # WORDS COMMAND..
     if [[ $last =~ ^([0-9]+)\ passed,\ ([0-9]+)\ failed$ ]]; then
         passed=$((passed + BASH_REMATCH[1]))
         failed=$((failed + BASH_REMATCH[2]))
-        [ "${BASH_REMATCH[2]}" -ne 0 ] || check "$words: ended with status $status" $status
+        [ "${BASH_REMATCH[2]}" -ne 0 ] || check $status "$words: ended with status $status"
     else
-        check "$words: gave no count, and ended with status $status" 1
+        check 1 "$words: gave no count, and ended with status $status"
     fi
 }
 
 # The library: once in full, once more where every read and write is watched.
 try_library() {
     gcc "${flags[@]}" -o "$work/check" "${parts[@]}" "$library"
-    check "the comparison can't be linked with $library" $?
+    check $? "the comparison can't be linked with $library"
     compare "the comparison" "$work/check"
     if command -v valgrind >/dev/null; then
         compare "the comparison under valgrind" valgrind -q --error-exitcode=99 --leak-check=full "$work/check" small heap
     else
         gcc "${flags[@]}" -fsanitize=address,undefined -o "$work/watched" "${sources[@]}" "$library"
-        check "neither valgrind nor gcc's -fsanitize=address is here" $?
+        check $? "neither valgrind nor gcc's -fsanitize=address is here"
         compare "the comparison under AddressSanitizer" "$work/watched" small heap
     fi
 }

@@ -6,7 +6,7 @@
 -- session-same   == sessions are alike where all answers are
 -- book-session   == so is every session
 -- join-agrees    == the search for a joining border
--- has-number     == the points (areas) have these numbers and no others
+-- numbers-agree  == the book has these numbers and no others
 -- book-first, book-size, book-neighbours, book-joining == the book on point and area numbers, refusals included
 -- Assumes nothing.
 use mathlib.Core.Path.{_≡_, refl, sym, ap, ap₂, _∙_}
@@ -21,12 +21,13 @@ use Rattle.count.specs.Below.{pick}
 use Rattle.count.proofs.Logic.{lt-or-ge, true-or-false, both-left, both-right, bool-same}
 use Rattle.count.proofs.Below.{find-not, count-none}
 use Rattle.words.specs.Brackets.{Bracket, step, number, first, size}
-use Rattle.words.specs.Word.{round, seen, crossing}
+use Rattle.words.specs.declared.family.Family.the-variants.{Round as round}
+use Rattle.words.specs.Word.{seen, crossing}
 use Rattle.words.proofs.Step.{step-below}
 use Rattle.words.proofs.Numbers.{openings}
-use Rattle.drawing.specs.Drawing.{Drawing, Cell, borders, ends, other, turn, endAt, positionOf}
+use Rattle.drawing.specs.Drawing.{Drawing, Kind, borders, ends, other, turn, endAt, positionOf}
 use Rattle.drawing.specs.Session.{Answer, answer, refused, Call, placeAfter, session}
-use Rattle.drawing.specs.Book.{placeOf, numberAt, answerAt, bookAnswer, bookSession, noSuch, hasNumber, firstPosition, sizeOf, joinFrom}
+use Rattle.drawing.specs.Book.{placeOf, numberAt, answerAt, bookAnswer, bookSession, noSuch, hasNumber, firstPosition, endsOn, joinFrom}
 use Rattle.drawing.specs.Book.{bookFirst, bookSize, bookNeighbours, bookJoining}
 use Rattle.format.specs.Pack.{wordOf}
 use Rattle.format.specs.Calls.{moveIn, atPlace, firstIn, placesIn, joinIn}
@@ -37,7 +38,7 @@ use Rattle.agreement.proofs.Steps.{cellWord, around-step, turn-around, 
 use Rattle.agreement.proofs.Cells.{number-agrees, lowest-agrees, turn-lowest, first-agrees, size-agrees}
 use Rattle.agreement.proofs.Counts.{cells-agree}
 
-abbrev pub isNumbered : Drawing → Cell → ℕ → Bool
+abbrev pub isNumbered : Drawing → Kind → ℕ → Bool
 isNumbered D c k = ltb 0 k && leb k (1 + openings (cellWord D c) (ends D))
 
 pub session-same : (f g : Call → ℕ → Answer ℕ) → ((c : Call) (i : ℕ) → f c i ≡ g c i) → (i : ℕ) (cs : List Call) → session f i cs ≡ session g i cs
@@ -54,7 +55,7 @@ no-borders D =
     (λ t. let z : ends D ≡ 0 = eqb-true (ends D) 0 t in eq-eqb (borders D) 0 (omega arith))
 
 -- a point number without a first place has no places
-no-places : (D : Drawing) (k : ℕ) → ends D ≤ first (seen round (wordOf D)) (ends D) k → placesIn (wordOf D) Cell.point k ≡ 0
+no-places : (D : Drawing) (k : ℕ) → ends D ≤ first (seen round (wordOf D)) (ends D) k → placesIn (wordOf D) Kind.point k ≡ 0
 unfolding placesIn size first wordOf
 no-places D k g =
     let has : ℕ → Bool = λ p. eqb (number (seen round (wordOf D)) p) k in
@@ -70,11 +71,11 @@ module _ {D : Drawing} (T : Toured D) where
   unfolding answerAt moveIn wordOf
   answer-agrees Call.cross p l = ap suc (cross-mate T p l)
   answer-agrees Call.turn p l =
-      ap₂ (λ (t : Bool) (x : ℕ). pick t 0 (suc x)) (turn-lowest T p l) (ap (positionOf D) (turn-around D (endAt D p)) ∙ around-step T Cell.point p l)
-  answer-agrees Call.turn-back p l = ap₂ (λ (t : Bool) (x : ℕ). pick t 0 (suc x)) (lowest-agrees T Cell.point p l) (entry-back T p l)
-  answer-agrees Call.along p l = ap suc (around-step T Cell.area p l)
-  answer-agrees Call.point p l = number-agrees T Cell.point p l
-  answer-agrees Call.area p l = number-agrees T Cell.area p l
+      ap₂ (λ (t : Bool) (x : ℕ). pick t 0 (suc x)) (turn-lowest T p l) (ap (positionOf D) (turn-around D (endAt D p)) ∙ around-step T Kind.point p l)
+  answer-agrees Call.turn-back p l = ap₂ (λ (t : Bool) (x : ℕ). pick t 0 (suc x)) (lowest-agrees T Kind.point p l) (entry-back T p l)
+  answer-agrees Call.along p l = ap suc (around-step T Kind.area p l)
+  answer-agrees Call.point p l = number-agrees T Kind.point p l
+  answer-agrees Call.area p l = number-agrees T Kind.area p l
 
   pub book-call : (c : Call) (i : ℕ) → bookAnswer D c i ≡ atPlace (wordOf D) c i
   unfolding bookAnswer atPlace wordOf
@@ -96,8 +97,8 @@ module _ {D : Drawing} (T : Toured D) where
   join-agrees v zero p l = refl
   join-agrees v (suc j) p l =
       let b : ℕ → Bracket = seen round (wordOf D) in
-      let lands : numberAt D Cell.point (other (endAt D p)) ≡ number b (crossing (wordOf D) p)
-      = ap (numberAt D Cell.point) (sym (end-other T p l)) ∙ number-agrees T Cell.point (partner D p) (partner-below T p l)
+      let lands : numberAt D Kind.point (other (endAt D p)) ≡ number b (crossing (wordOf D) p)
+      = ap (numberAt D Kind.point) (sym (end-other T p l)) ∙ number-agrees T Kind.point (partner D p) (partner-below T p l)
       ∙ ap (number b) (cross-mate T p l) in
       let here : placeOf D (endAt D p) ≡ suc p = ap suc (T .meets .position-end p l) in
       let rest : joinFrom D v j (turn D (endAt D p)) ≡ joinIn (wordOf D) v j (step b (ends D) p)
@@ -106,41 +107,41 @@ module _ {D : Drawing} (T : Toured D) where
       λ i. elim (eqb (lands i) v) [ true ↦ here i | false ↦ rest i ]
 
   -- from the first place of point u once round; where there is no such point nothing is looked at
-  join-round : (u v : ℕ) → joinFrom D v (sizeOf D Cell.point u) (endAt D (firstPosition D Cell.point u))
-      ≡ joinIn (wordOf D) v (placesIn (wordOf D) Cell.point u) (first (seen round (wordOf D)) (ends D) u)
+  join-round : (u v : ℕ) → joinFrom D v (endsOn D Kind.point u) (endAt D (firstPosition D Kind.point u))
+      ≡ joinIn (wordOf D) v (placesIn (wordOf D) Kind.point u) (first (seen round (wordOf D)) (ends D) u)
   join-round u v =
       let b : ℕ → Bracket = seen round (wordOf D) in
-      rw (size-agrees T Cell.point u, first-agrees T Cell.point u) (
+      rw (size-agrees T Kind.point u, first-agrees T Kind.point u) (
       elim (lt-or-ge (first b (ends D) u) (ends D)) [
-        | inl l ↦ join-agrees v (placesIn (wordOf D) Cell.point u) (first b (ends D) u) l
+        | inl l ↦ join-agrees v (placesIn (wordOf D) Kind.point u) (first b (ends D) u) l
         | inr g ↦ rw (no-places D u g) (no-search D v (endAt D (first b (ends D) u)) (first b (ends D) u))
       ])
 
-  pub has-number : (c : Cell) (k : ℕ) → hasNumber D c k ≡ isNumbered D c k
+  pub numbers-agree : (c : Kind) (k : ℕ) → hasNumber D c k ≡ isNumbered D c k
   unfolding hasNumber
-  has-number c k = ap (λ (n : ℕ). ltb 0 k && leb k n) (cells-agree T c)
+  numbers-agree c k = ap (λ (n : ℕ). ltb 0 k && leb k n) (cells-agree T c)
 
-  pub book-first : (c : Cell) (k : ℕ) → bookFirst D c k ≡ pick (isNumbered D c k) (answer (firstIn (wordOf D) c k)) (refused (noSuch c))
+  pub book-first : (c : Kind) (k : ℕ) → bookFirst D c k ≡ pick (isNumbered D c k) (answer (firstIn (wordOf D) c k)) (refused (noSuch c))
   unfolding bookFirst firstIn wordOf
   book-first c k =
       let place : pick (eqb (borders D) 0) 0 (suc (firstPosition D c k)) ≡ pick (eqb (ends D) 0) 0 (suc (first (cellWord D c) (ends D) k))
       = ap₂ (λ (t : Bool) (x : ℕ). pick t 0 (suc x)) (no-borders D) (first-agrees T c k) in
-      ap₂ (λ (t : Bool) (x : ℕ). pick t (answer x) (refused (noSuch c))) (has-number c k) place
+      ap₂ (λ (t : Bool) (x : ℕ). pick t (answer x) (refused (noSuch c))) (numbers-agree c k) place
 
-  pub book-size : (c : Cell) (k : ℕ) → bookSize D c k ≡ pick (isNumbered D c k) (answer (placesIn (wordOf D) c k)) (refused (noSuch c))
+  pub book-size : (c : Kind) (k : ℕ) → bookSize D c k ≡ pick (isNumbered D c k) (answer (placesIn (wordOf D) c k)) (refused (noSuch c))
   unfolding bookSize
-  book-size c k = ap₂ (λ (t : Bool) (x : ℕ). pick t (answer x) (refused (noSuch c))) (has-number c k) (size-agrees T c k)
+  book-size c k = ap₂ (λ (t : Bool) (x : ℕ). pick t (answer x) (refused (noSuch c))) (numbers-agree c k) (size-agrees T c k)
 
-  pub book-neighbours : (k : ℕ) → bookNeighbours D k ≡ pick (isNumbered D Cell.area k) (answer (placesIn (wordOf D) Cell.area k)) (refused 15)
+  pub book-neighbours : (k : ℕ) → bookNeighbours D k ≡ pick (isNumbered D Kind.area k) (answer (placesIn (wordOf D) Kind.area k)) (refused 15)
   unfolding bookNeighbours
-  book-neighbours k = book-size Cell.area k
+  book-neighbours k = book-size Kind.area k
 
   pub book-joining : (u v : ℕ)
       → bookJoining D u v
-      ≡ pick (isNumbered D Cell.point u && isNumbered D Cell.point v)
-      (answer (joinIn (wordOf D) v (placesIn (wordOf D) Cell.point u) (first (seen round (wordOf D)) (ends D) u)))
+      ≡ pick (isNumbered D Kind.point u && isNumbered D Kind.point v)
+      (answer (joinIn (wordOf D) v (placesIn (wordOf D) Kind.point u) (first (seen round (wordOf D)) (ends D) u)))
       (refused 14)
   unfolding bookJoining
   book-joining u v =
       ap₂ (λ (t : Bool) (x : ℕ). pick t (answer x) (refused 14))
-      (ap₂ (λ (s t : Bool). s && t) (has-number Cell.point u) (has-number Cell.point v)) (join-round u v)
+      (ap₂ (λ (s t : Bool). s && t) (numbers-agree Kind.point u) (numbers-agree Kind.point v)) (join-round u v)

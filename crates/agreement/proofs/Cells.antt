@@ -22,15 +22,16 @@ use Rattle.orbits.specs.Cycles.{SameCycle, cycles, leads}
 use Rattle.orbits.proofs.Low.{same-cycle-low, low-same-cycle}
 use Rattle.orbits.proofs.Conjugate.{conjugate-same-cycle, same-cycle-conjugate, conjugate-cycles, count-renamed}
 use Rattle.words.specs.Brackets.{Bracket, inner, Balanced, step, number, isFirst, isLast, first, size}
-use Rattle.words.specs.Word.{round, seen}
+use Rattle.words.specs.declared.family.Family.the-variants.{Round as round}
+use Rattle.words.specs.Word.{seen}
 use Rattle.words.proofs.Stack.{inner-le, inner-below, inner-inner}
 use Rattle.words.proofs.Step.{step-below, step-permutes}
 use Rattle.words.proofs.Numbers.{openings, first-is, last-step}
 use Rattle.words.proofs.Points.{step-cycle, number-cycle, leads-first, cycles-step, number-leads}
-use Rattle.drawing.specs.Drawing.{Drawing, Cell, ends, turn, around, cellOf, endAt}
-use Rattle.drawing.specs.Book.{lowPosition, isLowest, numberAt, firstPosition, sizeOf}
+use Rattle.drawing.specs.Drawing.{Drawing, Kind, ends, turn, around, cellOf, endAt}
+use Rattle.drawing.specs.Book.{lowPosition, isLowest, numberAt, firstPosition, endsOn}
 use Rattle.format.specs.Pack.{wordOf}
-use Rattle.format.specs.Calls.{familyOfCell, placesIn}
+use Rattle.format.specs.Calls.{familyOfKind, placesIn}
 use Rattle.agreement.specs.Toured.{Toured}
 use Rattle.agreement.proofs.Positions.{end-permutes}
 use Rattle.agreement.proofs.Nesting.{word-balanced}
@@ -40,10 +41,10 @@ use Rattle.agreement.proofs.Steps.{cellWord, around-permutes, around-en
 same-test : (a b : ℕ) → eqb a b ≡ eqb b a
 same-test a b = bool-same (eqb a b) (eqb b a) (λ t. eq-eqb b a (sym (eqb-true a b t))) (λ t. eq-eqb a b (sym (eqb-true b a t)))
 
-module _ {D : Drawing} (T : Toured D) (c : Cell) where
+module _ {D : Drawing} (T : Toured D) (c : Kind) where
   -- the letters of c's family are balanced
   balance : Balanced (cellWord D c) (ends D)
-  balance = word-balanced T (familyOfCell c)
+  balance = word-balanced T (familyOfKind c)
 
   -- the ends about a point (along an area) are the cycles of the word's step
   cycle-agrees : (p q : ℕ) → p < ends D → q < ends D
@@ -112,19 +113,19 @@ module _ {D : Drawing} (T : Toured D) (c : Cell) where
       find-same (λ p. eqb (numberAt D c (endAt D p)) k) (λ p. eqb (number (cellWord D c) p) k) (ends D)
       (λ p l. ap (λ x. eqb x k) (number-agrees p l))
 
-  pub size-agrees : (k : ℕ) → sizeOf D c k ≡ placesIn (wordOf D) c k
-  unfolding sizeOf placesIn size wordOf
+  pub size-agrees : (k : ℕ) → endsOn D c k ≡ placesIn (wordOf D) c k
+  unfolding endsOn placesIn size wordOf
   size-agrees k =
       sym (count-renamed (end-permutes T) (λ h. eqb (numberAt D c h) k))
       ∙ count-same (λ p. eqb (numberAt D c (endAt D p)) k) (λ p. eqb (number (cellWord D c) p) k) (ends D)
       (λ p l. ap (λ x. eqb x k) (number-agrees p l))
 
 pub turn-lowest : {D : Drawing} → Toured D → (p : ℕ) → p < ends D
-    → isLowest D Cell.point (turn D (endAt D p)) ≡ isLast (seen round (wordOf D)) (ends D) p
+    → isLowest D Kind.point (turn D (endAt D p)) ≡ isLast (seen round (wordOf D)) (ends D) p
 turn-lowest {D} T p l =
     let b : ℕ → Bracket = seen round (wordOf D) in
     let q : ℕ = step b (ends D) p in
     let last = last-step b (ends D) (word-balanced T round) p l in
-    ap (isLowest D Cell.point) (turn-end T p l)
-    ∙ lowest-agrees T Cell.point q (step-below b (ends D) (word-balanced T round) p l)
+    ap (isLowest D Kind.point) (turn-end T p l)
+    ∙ lowest-agrees T Kind.point q (step-below b (ends D) (word-balanced T round) p l)
     ∙ bool-same (isFirst b q) (isLast b (ends D) p) (λ t. last .1 (first-is b q .0 t)) (λ t. first-is b q .1 (last .0 t))

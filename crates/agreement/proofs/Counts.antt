@@ -22,9 +22,11 @@ use Rattle.orbits.specs.Cycles.{Permutes, cycles}
 use Rattle.orbits.proofs.Iter.{permutes-involution}
 use Rattle.orbits.proofs.Conjugate.{count-renamed}
 use Rattle.words.specs.Brackets.{isOpens, opens, closes, neither}
-use Rattle.words.specs.Word.{Family, round, square, sameFamily, seen}
+use Rattle.words.specs.declared.family.Family.{Family}
+use Rattle.words.specs.declared.family.Family.the-variants.{Round as round, Square as square}
+use Rattle.words.specs.Word.{sameFamily, seen}
 use Rattle.words.proofs.Numbers.{openings}
-use Rattle.drawing.specs.Drawing.{Drawing, Cell, borders, ends, border, isMarked, around, cells, endAt, isSecond}
+use Rattle.drawing.specs.Drawing.{Drawing, Kind, borders, ends, border, isMarked, around, cells, endAt, isSecond}
 use Rattle.drawing.specs.Checks.{markCount}
 use Rattle.drawing.proofs.Ends.{count-borders}
 use Rattle.format.specs.Pack.{wordOf}
@@ -113,7 +115,7 @@ module _ {D : Drawing} (T : Toured D) where
   pub letters-round : count (λ p. sameFamily round (wordOf D .letter p .family)) (ends D) ≡ 2 * markCount D
   letters-round = letters-count round ∙ ap (λ k. 2 * k) (round-count D)
 
-  pub cells-agree : (c : Cell) → cells D c ≡ 1 + openings (cellWord D c) (ends D)
+  pub cells-agree : (c : Kind) → cells D c ≡ 1 + openings (cellWord D c) (ends D)
   unfolding cells ends
   cells-agree c =
       elim (same-or-not (borders D) 0) [
@@ -125,12 +127,12 @@ module _ {D : Drawing} (T : Toured D) where
             pick-no (eqb (borders D) 0) 1 (cycles (ends D) (around D c)) (ne-eqb (borders D) 0 d) ∙ cycles-agree T c (omega arith)
       ]
 
-  pub points-count : cells D Cell.point ≡ 1 + markCount D
-  points-count = cells-agree Cell.point ∙ ap (λ k. 1 + k) openings-round
+  pub points-count : cells D Kind.point ≡ 1 + markCount D
+  points-count = cells-agree Kind.point ∙ ap (λ k. 1 + k) openings-round
 
-  pub areas-count : cells D Cell.area ≡ borders D + 2 - cells D Cell.point
-  areas-count = omega (arith, cells-agree Cell.area, openings-square, points-count)
+  pub areas-count : cells D Kind.area ≡ borders D + 2 - cells D Kind.point
+  areas-count = omega (arith, cells-agree Kind.area, openings-square, points-count)
 
-  pub cells-in : (c : Cell) → cells D c ≡ cellsIn (record { m = borders D; n = cells D Cell.point }) c
-  cells-in Cell.point = refl
-  cells-in Cell.area = areas-count
+  pub cells-in : (c : Kind) → cells D c ≡ cellsIn (record { m = borders D; n = cells D Kind.point }) c
+  cells-in Kind.point = refl
+  cells-in Kind.area = areas-count

@@ -4,4 +4,5 @@ pub mod Nesting
 pub mod Steps
 pub mod Cells
 pub mod Counts
+pub mod Passed
 pub mod Book

@@ -22,7 +22,9 @@ use borrow.Author.Tests.{lt-ltb, le-ltb}
 use Rattle.count.specs.Below.{pick}
 use Rattle.count.proofs.Logic.{lt-or-ge, true-or-false, pick-yes, pick-no}
 use Rattle.words.specs.Brackets.{opens, closes, neither, Balanced, mate}
-use Rattle.words.specs.Word.{Family, round, square, sameFamily, seen, crossing}
+use Rattle.words.specs.declared.family.Family.{Family}
+use Rattle.words.specs.declared.family.Family.the-variants.{Round as round, Square as square}
+use Rattle.words.specs.Word.{sameFamily, seen, crossing}
 use Rattle.words.proofs.Letters.{opens-not-closes, opens-not-neither, closes-not-neither}
 use Rattle.words.proofs.Unique.{Pairing, pairing-balanced, mate-unique}
 use Rattle.drawing.specs.Drawing.{Drawing, ends, border, other, isMarked, endAt, positionOf}

@@ -20,54 +20,55 @@ use Rattle.count.proofs.Logic.{true-or-false}
 use Rattle.count.proofs.Below.{find-has, find-at-most}
 use Rattle.orbits.specs.Cycles.{Permutes}
 use Rattle.words.specs.Brackets.{Bracket, mate, step, back}
-use Rattle.words.specs.Word.{round, seen}
+use Rattle.words.specs.declared.family.Family.the-variants.{Round as round}
+use Rattle.words.specs.Word.{seen}
 use Rattle.words.proofs.Mate.{mate-below}
 use Rattle.words.proofs.Step.{step-below, back-below, step-back}
-use Rattle.drawing.specs.Drawing.{Drawing, Cell, ends, border, other, turn, isMarked, over, walk, crossed, around, endAt, positionOf}
+use Rattle.drawing.specs.Drawing.{Drawing, Kind, ends, border, other, turn, isMarked, over, walk, crossed, around, endAt, positionOf}
 use Rattle.drawing.specs.Book.{entryTo}
 use Rattle.drawing.proofs.Ends.{other-border, other-other, over-yes, over-no, over-over, walk-permutes}
 use Rattle.format.specs.Pack.{wordOf}
-use Rattle.format.specs.Calls.{familyOfCell}
+use Rattle.format.specs.Calls.{familyOfKind}
 use Rattle.agreement.specs.Toured.{Toured}
 use Rattle.agreement.proofs.Positions.{end-other, end-next}
 use Rattle.agreement.proofs.Nesting.{inFamily, metIn, word-balanced, mate-partner}
 
-abbrev pub cellWord : Drawing → Cell → ℕ → Bracket
-cellWord D c = seen (familyOfCell c) (wordOf D)
+abbrev pub cellWord : Drawing → Kind → ℕ → Bracket
+cellWord D c = seen (familyOfKind c) (wordOf D)
 
 -- Two crossings of one border undo one another: together these cross the borders of c's family.
-over-cross : (D : Drawing) (c : Cell) (h : ℕ)
-    → over (isMarked D) (over (crossed c) h) ≡ pick (inFamily D (familyOfCell c) (border h)) (other h) h
-over-cross D Cell.point h =
+over-cross : (D : Drawing) (c : Kind) (h : ℕ)
+    → over (isMarked D) (over (crossed c) h) ≡ pick (inFamily D (familyOfKind c) (border h)) (other h) h
+over-cross D Kind.point h =
     elim (true-or-false (isMarked D (border h))) [
-      | inl e ↦ rw (over-no (crossed Cell.point) h refl, over-yes (isMarked D) h e, e)
-      | inr e ↦ rw (over-no (crossed Cell.point) h refl, over-no (isMarked D) h e, e)
+      | inl e ↦ rw (over-no (crossed Kind.point) h refl, over-yes (isMarked D) h e, e)
+      | inr e ↦ rw (over-no (crossed Kind.point) h refl, over-no (isMarked D) h e, e)
     ]
-over-cross D Cell.area h =
+over-cross D Kind.area h =
     elim (true-or-false (isMarked D (border h))) [
-      | inl e ↦ rw (over-yes (crossed Cell.area) h refl, over-yes (isMarked D) (other h) (ap (isMarked D) (other-border h) ∙ e), e) (other-other h)
-      | inr e ↦ rw (over-yes (crossed Cell.area) h refl, over-no (isMarked D) (other h) (ap (isMarked D) (other-border h) ∙ e), e)
+      | inl e ↦ rw (over-yes (crossed Kind.area) h refl, over-yes (isMarked D) (other h) (ap (isMarked D) (other-border h) ∙ e), e) (other-other h)
+      | inr e ↦ rw (over-yes (crossed Kind.area) h refl, over-no (isMarked D) (other h) (ap (isMarked D) (other-border h) ∙ e), e)
     ]
 
-pub around-permutes : {D : Drawing} → Toured D → (c : Cell) → Permutes (ends D) (around D c)
+pub around-permutes : {D : Drawing} → Toured D → (c : Kind) → Permutes (ends D) (around D c)
 unfolding around
 around-permutes {D} T c = walk-permutes D (crossed c) (T .permutes)
 
 -- the walk about a cell is the tour's step after two crossings
-around-walk : (D : Drawing) (c : Cell) (h : ℕ) → around D c h ≡ walk D (isMarked D) (over (isMarked D) (over (crossed c) h))
+around-walk : (D : Drawing) (c : Kind) (h : ℕ) → around D c h ≡ walk D (isMarked D) (over (isMarked D) (over (crossed c) h))
 unfolding around walk
 around-walk D c h = rw (over-over (isMarked D) (over (crossed c) h))
 
-pub turn-around : (D : Drawing) (h : ℕ) → turn D h ≡ around D Cell.point h
+pub turn-around : (D : Drawing) (h : ℕ) → turn D h ≡ around D Kind.point h
 unfolding around walk over
 turn-around D h = refl
 
 module _ {D : Drawing} (T : Toured D) where
-  module _ (c : Cell) where
+  module _ (c : Kind) where
     -- the end at p's partner
     mate-end : (p : ℕ) → p < ends D → endAt D (mate (cellWord D c) (ends D) p) ≡ over (isMarked D) (over (crossed c) (endAt D p))
-    mate-end p l = rw (mate-partner T (familyOfCell c) p l, over-cross D c (endAt D p)) (
-        elim (true-or-false (metIn D (familyOfCell c) p)) [
+    mate-end p l = rw (mate-partner T (familyOfKind c) p l, over-cross D c (endAt D p)) (
+        elim (true-or-false (metIn D (familyOfKind c) p)) [
           | inl t ↦ rw t (end-other T p l)
           | inr f ↦ rw f
         ])
@@ -76,15 +77,15 @@ module _ {D : Drawing} (T : Toured D) where
     unfolding step
     around-end p l =
         around-walk D c (endAt D p) ∙ ap (walk D (isMarked D)) (sym (mate-end p l))
-        ∙ sym (end-next T (mate (cellWord D c) (ends D) p) (mate-below (cellWord D c) (ends D) (word-balanced T (familyOfCell c)) p l))
+        ∙ sym (end-next T (mate (cellWord D c) (ends D) p) (mate-below (cellWord D c) (ends D) (word-balanced T (familyOfKind c)) p l))
 
     pub around-step : (p : ℕ) → p < ends D → positionOf D (around D c (endAt D p)) ≡ step (cellWord D c) (ends D) p
     around-step p l =
         ap (positionOf D) (around-end p l)
-        ∙ T .meets .position-end (step (cellWord D c) (ends D) p) (step-below (cellWord D c) (ends D) (word-balanced T (familyOfCell c)) p l)
+        ∙ T .meets .position-end (step (cellWord D c) (ends D) p) (step-below (cellWord D c) (ends D) (word-balanced T (familyOfKind c)) p l)
 
   pub turn-end : (p : ℕ) → p < ends D → turn D (endAt D p) ≡ endAt D (step (seen round (wordOf D)) (ends D) p)
-  turn-end p l = turn-around D (endAt D p) ∙ around-end Cell.point p l
+  turn-end p l = turn-around D (endAt D p) ∙ around-end Kind.point p l
 
   module _ (p : ℕ) (l : p < ends D) where
     -- one step back

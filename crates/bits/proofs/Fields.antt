@@ -1,7 +1,5 @@
 -- Bits a block at a time: a run of bits as a number, and its ones as a difference of ranks.
 --
--- field-below      == a field of w bits is below 2 ^ w
--- field-join       == two fields, one after the other, make one field
 -- field-low        == the low digits of a byte are the field of its first bits
 -- field-byte       == a byte is the field of its eight bits
 -- field-high       == the other digits are the field of its other bits
@@ -12,41 +10,28 @@
 -- rank-past        == no bit past the end is 1
 -- block-join, two-join == the number that bytes hold, from those that its halves hold
 -- block-ones, low-ones, low-past == the ones of a block, and of the first bits of a byte
+-- byte-past, four-past, width, field-read == a field read off four bytes
+-- ones-few, among-share == how many of its bits are v
 -- Assumes nothing.
 use mathlib.Core.Path.{_≡_, refl, sym, ap, _∙_}
 use mathlib.Core.Logic.{inl, inr}
 use mathlib.Core.List.{List}
-use Prim.Native.Nat.{ℕ, zero, suc, _+_, _-_, _*_, _/_, _%_, _^_, _<_, _≤_}
-use native.Mathlib.Nat.{add-zero, add-suc, zero-mul, add-mul, mul-assoc, mul-comm, pow-suc, mod-eq-of-lt, mod-one, mod-le}
+use Prim.Native.Nat.{ℕ, zero, suc, _+_, _-_, _*_, _/_, _%_, _^_, _<_, _≤_, min}
+use native.Mathlib.Nat.{add-zero, zero-mul, mod-eq-of-lt, mod-one, mod-le}
 use native.Mathlib.Omega.{arith}
 use borrow.Author.Tests.{eq-eqb, ne-eqb}
-use lib.Arith.{digits-lt}
 use lib.Count.{ones, ones-cat, ones-le}
 use lib.Dec.{eqb}
-use lib.ListN.{length, getD}
-use lib.Pow.{pow-pos, pow-add, mod-pow-add, high}
+use lib.ListN.{length, getD, List·getD-eq-default}
+use lib.Pow.{pow-pos, pow-mono, mod-pow-add, high}
 use mir.Syntax.{w64}
 use mir.Val.{Fits}
 use Rattle.count.specs.Below.{pick}
 use Rattle.count.proofs.Logic.{same-or-not, pick-yes, pick-no}
 use Rattle.count.proofs.Below.{count-none}
-use Rattle.bits.specs.Strings.{bit, isBit, rank, field, share}
+use Rattle.bits.specs.Strings.{bit, isBit, rank, field, among, share, widest}
 use Rattle.bits.proofs.Digits.{one-shifted}
-use Rattle.bits.proofs.Laws.{bit-below-2, bit-cases, bit-past, bit-at, rank-here, rank-other, rank-mono, rank-before, rank-both}
-
-pub field-below : (s : List ℕ) (p w : ℕ) → field s p w < 2 ^ w
-unfolding field
-field-below s p zero = omega arith
-field-below s p (suc w) = rw (pow-suc 2 w, mul-comm (2 ^ w) 2) (digits-lt (bit-below-2 s (p + w)) (field-below s p w))
-
-pub field-join : (s : List ℕ) (p a b : ℕ) → field s (p + a) b * 2 ^ a + field s p a ≡ field s p (a + b)
-unfolding field
-field-join s p a zero = rw (zero-mul (2 ^ a), add-zero a) (omega arith)
-field-join s p a (suc b) =
-    let e : p + a + b ≡ p + (a + b) = omega arith in
-    let m : bit s (p + a + b) * 2 ^ b * 2 ^ a ≡ bit s (p + (a + b)) * 2 ^ (a + b) =
-    rw (e, mul-assoc (bit s (p + (a + b))) (2 ^ b) (2 ^ a), mul-comm (2 ^ b) (2 ^ a), pow-add 2 a b) in
-    rw (add-suc a b, add-mul (bit s (p + a + b) * 2 ^ b) (field s (p + a) b) (2 ^ a)) (omega (arith, m, field-join s p a b))
+use Rattle.bits.proofs.Laws.{bit-below-2, bit-cases, bit-past, bit-at, rank-here, rank-other, rank-mono, rank-before, rank-both, rank-among, field-below, field-join, field-part}
 
 pub field-low : (s : List ℕ) (k r : ℕ) → r ≤ 8 → getD s k 0 % 2 ^ r ≡ field s (8 * k) r
 unfolding field
@@ -161,3 +146,41 @@ low-ones s k r l = rw (one-shifted 64 r (omega arith)) (block-ones s k r (getD s
 
 pub low-past : (s : List ℕ) (k r : ℕ) → length s ≤ k → (rank 1 s (8 * k) + 0 ≡ rank 1 s (8 * k + r)) × (0 ≤ r)
 low-past s k r l = (omega (arith, rank-past s (8 * k) r (omega arith)), omega arith)
+
+-- ---- a run of bits, read off four bytes
+pub byte-past : (s : List ℕ) (k : ℕ) → length s ≤ k → (0 ≡ getD s k 0) × (0 < 256)
+byte-past s k l = (sym (List·getD-eq-default s 0 {n = k} l), omega arith)
+
+-- the fourth byte is past the end
+pub four-past : (s : List ℕ) (k x y z : ℕ) → length s < k + 4 → x ≡ getD s (k + 2) 0 → x < 256 → y ≡ getD s (k + 1) 0 → y < 256 → z ≡ getD s k 0 → z < 256
+    → (x * 65536 + y * 256 + z ≡ field s (8 * k) 32) × (x * 65536 + y * 256 + z < 4294967296)
+four-past s k x y z l ex lx ey ly ez lz =
+    let low = two-join s k (rw (← ey) ly) (rw (← ez) lz) .0 in
+    let high = two-join s (k + 2) (rw (← byte-past s (k + 2 + 1) (omega arith) .0) (omega arith)) (rw (← ex) lx) .0 in
+    let none = byte-past s (k + 2 + 1) (omega arith) .0 in
+    let h : x ≡ field s (8 * (k + 2)) 16 = omega arith in
+    let g : y * 256 + z ≡ field s (8 * k) 16 = omega arith in
+    let j = block-join s k 2 x (y * 256 + z) h g in
+    (omega arith, omega arith)
+
+pub width : (w m : ℕ) → m ≡ min w widest → 0 < 1 * 2 ^ m % 2 ^ 64
+width w m h = rw (one-shifted 64 m (omega arith)) (pow-pos m)
+
+field-few : (s : List ℕ) (p m : ℕ) → m ≤ widest → field s p m < 2 ^ widest
+field-few s p m l = omega (arith, field-below s p m, pow-mono {i = m} {j = widest} l)
+
+pub field-read : (s : List ℕ) (p w m x : ℕ) → m ≡ min w widest → x ≡ field s (8 * (p / 8)) 32
+    → (x / 2 ^ (p % 8) % (1 * 2 ^ m % 2 ^ 64) ≡ field s p (min w widest)) × (x / 2 ^ (p % 8) % (1 * 2 ^ m % 2 ^ 64) < 2 ^ widest)
+field-read s p w m x h e =
+    let q : 8 * (p / 8) + p % 8 ≡ p = omega arith in
+    let r : x / 2 ^ (p % 8) % (1 * 2 ^ m % 2 ^ 64) ≡ field s p (min w widest) =
+    rw (one-shifted 64 m (omega arith), e, ← h) (field-part s (8 * (p / 8)) 32 (p % 8) m (omega arith) ∙ ap (λ i. field s i m) q) in
+    (r, rw r (field-few s p (min w widest) (omega arith)))
+
+module _ (s : List ℕ) (p m x : ℕ) (e : x ≡ field s p m) where
+  pub ones-few : ones x ≤ m
+  ones-few = rw e (ones-le m (field s p m) (field-below s p m))
+
+  pub among-share : (w : ℕ) → w ≡ m → (v r : ℕ) → r ≡ share v w (ones x) → r ≡ among v s p m
+  among-share w h v r q =
+      omega (arith, ap (λ i. share v i (ones x)) h, rank-among v s p m, rank-share v s p m (ones x) (rw e (field-ones s p m)))

@@ -6,6 +6,11 @@
 -- rank-zero, rank-here, rank-other == the rank from one position to the next
 -- rank-le, rank-mono, rank-before  == a rank is at most its position, never falls, and rises over a bit that counts
 -- rank-both                  == each bit is 0 or 1: the two ranks add up to the position
+-- rank-among                 == what stands among the bits from p on is the difference of two ranks
+-- field-below                == a field of w bits is below 2 ^ w
+-- field-join                 == two fields, one after the other, make one field
+-- field-first, field-rest    == the first bit of a field, and the others
+-- field-part                 == a field within a field
 -- rank-same, select-same     == strings with the same bits have the same ranks and positions
 -- select-le, select-below, select-none == a selected position is at most n, and below n exactly if there are enough
 -- select-holds               == a selected position holds the bit
@@ -16,22 +21,24 @@
 -- rank-openings              == the openings before a position are its zeros
 -- unused-zero-from, unused-zero-has == unusedZero holds exactly if every bit from k on is 0
 -- Assumes nothing.
-use mathlib.Core.Path.{_≡_, ap, _∙_}
+use mathlib.Core.Path.{_≡_, sym, ap, _∙_}
 use mathlib.Core.Logic.{_⊎_, inl, inr, ⊎-elim}
 use mathlib.Core.Bool.{true, false, not}
 use mathlib.Core.List.{List}
-use Prim.Native.Nat.{ℕ, _+_, _-_, _*_, _/_, _%_, _^_, _<_, _≤_}
-use native.Mathlib.Nat.{zero-div}
+use Prim.Native.Nat.{ℕ, zero, suc, _+_, _-_, _*_, _/_, _%_, _^_, _<_, _≤_}
+use native.Mathlib.Nat.{add-zero, add-suc, zero-mul, add-mul, mul-assoc, mul-comm, pow-suc, zero-div}
 use native.Mathlib.Omega.{arith}
 use borrow.Author.Tests.{eq-eqb, ne-eqb, eqb-true}
+use lib.Arith.{digits-lt}
 use lib.Dec.{eqb}
 use lib.ListN.{getD, length, List·getD-eq-default}
+use lib.Pow.{pow-add, high, low}
 use Rattle.count.specs.Below.{count}
 use Rattle.count.proofs.Logic.{same-or-not, lt-or-ge, pick-yes, pick-no}
 use Rattle.count.proofs.Below.{count-zero, count-yes, count-no, count-le, count-mono, count-before, count-same, count-not, nth-has, nth-count, nth-below, nth-none, nth-le, nth-of-count, nth-mono, nth-same, all-from, all-has}
 use Rattle.words.specs.Brackets.{opens, closes, isOpens}
 use Rattle.words.proofs.Letters.{opens-not-closes}
-use Rattle.bits.specs.Strings.{bit, isBit, rank, select, brackets, unusedZero}
+use Rattle.bits.specs.Strings.{bit, isBit, rank, select, field, among, brackets, unusedZero}
 
 pub bit-below-2 : (s : List ℕ) (i : ℕ) → bit s i < 2
 unfolding bit
@@ -146,6 +153,71 @@ pub rank-both : (s : List ℕ) (i : ℕ) → rank 0 s i + rank 1 s i ≡ i
 unfolding rank
 rank-both s i =
     rw (← count-same (λ x. not (isBit 0 s x)) (isBit 1 s) i (λ x l. other-bit s x)) (count-not (isBit 0 s) i)
+
+-- ---- a run of bits
+module _ (v : ℕ) (s : List ℕ) (p : ℕ) where
+  among-zero : among v s p 0 ≡ 0
+  unfolding among
+  among-zero = count-zero (λ i. isBit v s (p + i))
+
+  among-here : (w : ℕ) → bit s (p + w) ≡ v → among v s p (w + 1) ≡ among v s p w + 1
+  unfolding among
+  among-here w o = count-yes (λ i. isBit v s (p + i)) w (is-bit v s (p + w) o)
+
+  among-other : (w : ℕ) → (bit s (p + w) ≡ v → ⊥) → among v s p (w + 1) ≡ among v s p w
+  unfolding among
+  among-other w n = count-no (λ i. isBit v s (p + i)) w (not-bit v s (p + w) n)
+
+  pub rank-among : (w : ℕ) → rank v s p + among v s p w ≡ rank v s (p + w)
+  rank-among zero = rw (add-zero p) (omega (arith, among-zero))
+  rank-among (suc w) =
+      let e : p + suc w ≡ p + w + 1 = omega arith in
+      let f : suc w ≡ w + 1 = omega arith in
+      let h = rank-among w in
+      rw (e, f)
+      (elim (same-or-not (bit s (p + w)) v) [
+        | inl o ↦ omega (arith, rank-here v s (p + w) o, among-here w o)
+        | inr n ↦ omega (arith, rank-other v s (p + w) n, among-other w n)
+      ])
+
+pub field-below : (s : List ℕ) (p w : ℕ) → field s p w < 2 ^ w
+unfolding field
+field-below s p zero = omega arith
+field-below s p (suc w) = rw (pow-suc 2 w, mul-comm (2 ^ w) 2) (digits-lt (bit-below-2 s (p + w)) (field-below s p w))
+
+pub field-join : (s : List ℕ) (p a b : ℕ) → field s (p + a) b * 2 ^ a + field s p a ≡ field s p (a + b)
+unfolding field
+field-join s p a zero = rw (zero-mul (2 ^ a), add-zero a) (omega arith)
+field-join s p a (suc b) =
+    let e : p + a + b ≡ p + (a + b) = omega arith in
+    let m : bit s (p + a + b) * 2 ^ b * 2 ^ a ≡ bit s (p + (a + b)) * 2 ^ (a + b) =
+    rw (e, mul-assoc (bit s (p + (a + b))) (2 ^ b) (2 ^ a), mul-comm (2 ^ b) (2 ^ a), pow-add 2 a b) in
+    rw (add-suc a b, add-mul (bit s (p + a + b) * 2 ^ b) (field s (p + a) b) (2 ^ a)) (omega (arith, m, field-join s p a b))
+
+module _ (s : List ℕ) where
+  field-one : (p : ℕ) → field s p 1 ≡ bit s p
+  unfolding field
+  field-one p = rw (add-zero p) (omega arith)
+
+  first-and-rest : (p w : ℕ) → field s (p + 1) w * 2 + bit s p ≡ field s p (suc w)
+  first-and-rest p w =
+      let e : 1 + w ≡ suc w = omega arith in
+      rw (field-one p, e) at (field-join s p 1 w)
+
+  pub field-first : (p w : ℕ) → field s p (suc w) % 2 ≡ bit s p
+  field-first p w = omega (arith, first-and-rest p w, bit-below-2 s p)
+
+  pub field-rest : (p w : ℕ) → field s p (suc w) / 2 ≡ field s (p + 1) w
+  field-rest p w = omega (arith, first-and-rest p w, bit-below-2 s p)
+
+  pub field-part : (p t r w : ℕ) → r + w ≤ t → field s p t / 2 ^ r % 2 ^ w ≡ field s (p + r) w
+  field-part p t r w l =
+      let e : r + (t - r) ≡ t = omega arith in
+      let f : w + (t - r - w) ≡ t - r = omega arith in
+      let above : field s p t / 2 ^ r ≡ field s (p + r) (t - r) =
+      rw e at (ap (λ x. x / 2 ^ r) (sym (field-join s p r (t - r))) ∙ high (field s (p + r) (t - r)) r (field-below s p r)) in
+      rw above
+      (rw f at (ap (λ x. x % 2 ^ w) (sym (field-join s (p + r) w (t - r - w))) ∙ low (field s (p + r + w) (t - r - w)) w (field-below s (p + r) w)))
 
 module _ (v : ℕ) (s t : List ℕ) (n : ℕ) (same : (x : ℕ) → x < n → bit s x ≡ bit t x) where
   same-tests : (x : ℕ) → x < n → isBit v s x ≡ isBit v t x

@@ -3,20 +3,19 @@
 -- Counted s i a k c    == c of the bits from byte a to byte k are 1, on the way to bit i
 -- Selected v s n j p l == l of the first j bits that are v are still to come at bit p
 -- Unused s k at r      == the bits from k to bit r of byte at are 0
--- opens-at, closes-at  == the bracket of a bit that was read
 -- Assumes nothing.
 use mathlib.Core.Path.{_≡_, refl, sym, ap, _∙_}
 use mathlib.Core.Logic.{inl, inr}
 use mathlib.Core.Bool.{true, false}
 use mathlib.Core.List.{List}
-use Prim.Native.Nat.{ℕ, pred, _+_, _-_, _*_, _/_, _%_, _^_, _<_, _≤_, min}
+use Prim.Native.Nat.{ℕ, _+_, _-_, _*_, _/_, _%_, _^_, _<_, _≤_, min}
 use native.Mathlib.Nat.{zero-add}
 use native.Mathlib.Omega.{arith}
 use borrow.Author.Needs.{needs}
 use lib.ListN.{length, getD}
 use Rattle.count.proofs.Logic.{same-or-not, lt-or-ge, true-or-false}
-use Rattle.bits.specs.Strings.{bit, rank, select, brackets, unusedZero, field, share}
-use Rattle.bits.proofs.Laws.{bit-past, rank-zero, rank-here, rank-other, select-rank, select-none, bracket-0, bracket-not-0, unused-zero-from, unused-zero-has}
+use Rattle.bits.specs.Strings.{bit, rank, select, unusedZero, field, share}
+use Rattle.bits.proofs.Laws.{bit-past, rank-zero, rank-here, rank-other, select-rank, select-none, unused-zero-from, unused-zero-has}
 use Rattle.bits.proofs.Fields.{field-high, field-none, field-has, rank-share, rank-past}
 
 -- ---- bit

@@ -4,6 +4,7 @@
 -- set-bit-past     == nothing changes where the bit is past the end
 -- set-bit-here     == the bit that was set is the new one
 -- set-bit-other    == every other bit is as before
+-- set-bit-small    == what was a byte is one
 -- cleared-first, cleared-rest == the first k entries are 0, the others as before
 -- digit-.., turned-.. == what changes one byte, and that it fits
 -- Filled old n i l == l is old with its first i entries 0, on the way to n of them
@@ -57,6 +58,23 @@ module _ (s : List ℕ) (i : ℕ) (v : Bool) where
         | inl l ↦ elim (same-or-not (j / 8) (i / 8)) [ inl e ↦ in-same-byte j n e l | inr d ↦ in-other-byte j d ]
         | inr g ↦ ap (λ t. bit t j) (set-bit-past g)
       ]
+
+small-here : (s : List ℕ) (i : ℕ) (v : Bool) (j : ℕ) → getD s j 0 < 256 → i / 8 < length s → j ≡ i / 8 → getD (setBit s i v) j 0 < 256
+unfolding setBit
+small-here s i v j l b e =
+    rw (e, getD-set-same s (i / 8) (withBit (getD s (i / 8) 0) (i % 8) v) 0 b)
+    (with-bit-below (getD s (i / 8) 0) (i % 8) v 8 (rw e at l) (omega arith))
+
+small-there : (s : List ℕ) (i : ℕ) (v : Bool) (j : ℕ) → getD s j 0 < 256 → j ≢ i / 8 → getD (setBit s i v) j 0 < 256
+unfolding setBit
+small-there s i v j l d = rw (getD-set-other s (i / 8) j (withBit (getD s (i / 8) 0) (i % 8) v) 0 d) l
+
+pub set-bit-small : (s : List ℕ) (i : ℕ) (v : Bool) (j : ℕ) → getD s j 0 < 256 → getD (setBit s i v) j 0 < 256
+set-bit-small s i v j l =
+    elim (lt-or-ge (i / 8) (length s)) [
+      | inl b ↦ elim (same-or-not j (i / 8)) [ inl e ↦ small-here s i v j l b e | inr d ↦ small-there s i v j l d ]
+      | inr g ↦ rw (set-bit-past s i v g) l
+    ]
 
 -- the byte x without digit r, and with it
 module _ (x r : ℕ) (v : Bool) (l : r < 8) where

@@ -38,7 +38,7 @@ pub fn ones_in_eight(s: &[u8], k: usize) -> usize
 }
 
 // The number that the four bytes from byte k on hold, the first lowest.
-fn four(s: &[u8], k: usize) -> u64
+pub fn four(s: &[u8], k: usize) -> u64
     requires { ⌜ k + 4 ≤ length (now s) ⌝ }
     ensures { λ r. ⌜ (r ≡ field (now (s .entry)) (8 * k) 32) × (r < 4294967296) ⌝ }
 {

@@ -4,8 +4,13 @@
 //     rank          how many of the first i bits are v
 //     select        the position of the j-th bit that is v
 //     unused_zero   whether every bit from k on is 0
+//     field         the w bits from p on as a number, the first lowest, for w up to WIDEST
+//     count_in      how many of the w bits from p on are v, for w up to WIDEST
+//     byte          byte k
 //     set_bit       makes bit i be v
 //     clear         makes the first k entries of a list of 16-bit numbers 0
+//     bytes_for     how many bytes k bits take
+//     least         the lesser of two numbers
 //
 // Conventions. Bit i is bit i % 8 of byte i / 8, the lowest first. Positions count from 0, and so
 // does the j of select. A read past the end is 0, and a write there changes nothing. No function asks
@@ -13,14 +18,22 @@
 //
 // The strings are A, B and B* of document 01, "Tour and packed map". The definitions that the
 // contracts cite are in specs/; the laws that a caller may use are in proofs/Laws.antt and
-// proofs/Stores.antt. Read as brackets, the strings are matched by the crate `matching`.
+// proofs/Stores.antt, and no others. Read as brackets, the strings are matched by the crate `matching`.
 mod blocks;
+mod numbers;
 mod read;
+mod runs;
 mod write;
 
+pub use numbers::bytes_for;
+pub use numbers::least;
 pub use read::bit;
 pub use read::rank;
 pub use read::select;
 pub use read::unused_zero;
+pub use runs::WIDEST;
+pub use runs::byte;
+pub use runs::count_in;
+pub use runs::field;
 pub use write::clear;
 pub use write::set_bit;

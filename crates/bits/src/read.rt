@@ -2,6 +2,7 @@
 use crate::blocks::ones_in_byte;
 use crate::blocks::ones_in_eight;
 use crate::blocks::share;
+use crate::numbers::least;
 ghost use mathlib.Core.Path.{_≡_};
 ghost use Prim.Native.Nat.{_+_, _*_, _/_, _%_, _^_, _<_, _≤_, min};
 ghost use lib.ListN.{length};
@@ -29,20 +30,6 @@ pub fn rank(s: &[u8], v: usize, i: usize) -> usize
     share(v, i, ones + ones_from(s, i, e, k))
 }
 
-// How many of the bits from byte a on, before bit i, are 1; e whole bytes stand before it.
-fn ones_from(s: &[u8], i: usize, e: usize, a: usize) -> usize
-    requires { ⌜ (8 * a ≤ i) × (e ≡ min (i / 8) (length (now s))) ⌝ }
-    ensures { λ c. ⌜ (rank 1 (now (s .entry)) (8 * a) + c ≡ rank 1 (now (s .entry)) i) × (8 * a + c ≤ i) ⌝ }
-{
-    let mut k = a;
-    let mut ones: usize = 0;
-    while k < e {
-        ones += ones_in_byte(s, k, 8);
-        k += 1;
-    }
-    ones + ones_in_byte(s, k, i % 8)
-}
-
 // The position of the j-th bit, from 0, that is v among the first n; n where there is none.
 pub fn select(s: &[u8], v: usize, n: usize, j: usize) -> usize
     ensures { λ r. ⌜ (r ≡ select v (now (s .entry)) n j) × (r ≤ n) ⌝ }
@@ -61,7 +48,37 @@ pub fn select(s: &[u8], v: usize, n: usize, j: usize) -> usize
     select_in_bytes(s, v, n, e, k, left)
 }
 
-// The same from byte a on; e whole bytes stand before bit n.
+// Whether every bit from k on is 0.
+pub fn unused_zero(s: &[u8], k: usize) -> bool
+    ensures { λ r. ⌜ r ≡ unusedZero (now (s .entry)) k ⌝ }
+{
+    let mut at = k / 8;
+    let mut r = k % 8;
+    while at < s.len() {
+        if s[at] >> r != 0 {
+            return false;
+        }
+        r = 0;
+        at += 1;
+    }
+    true
+}
+
+// How many of the bits from byte a on, before bit i, are 1; e whole bytes stand before it.
+fn ones_from(s: &[u8], i: usize, e: usize, a: usize) -> usize
+    requires { ⌜ (8 * a ≤ i) × (e ≡ min (i / 8) (length (now s))) ⌝ }
+    ensures { λ c. ⌜ (rank 1 (now (s .entry)) (8 * a) + c ≡ rank 1 (now (s .entry)) i) × (8 * a + c ≤ i) ⌝ }
+{
+    let mut k = a;
+    let mut ones: usize = 0;
+    while k < e {
+        ones += ones_in_byte(s, k, 8);
+        k += 1;
+    }
+    ones + ones_in_byte(s, k, i % 8)
+}
+
+// The position of the j-th bit from byte a on that is v, as for select; e whole bytes stand before bit n.
 fn select_in_bytes(s: &[u8], v: usize, n: usize, e: usize, a: usize, j: usize) -> usize
     requires { ⌜ (8 * a ≤ n) × (e ≡ min (n / 8) (length (now s))) ⌝ }
     ensures { λ r. ⌜ (r ≡ select v (now (s .entry)) n (rank v (now (s .entry)) (8 * a) + j)) × (r ≤ n) ⌝ }
@@ -98,32 +115,10 @@ fn select_in_bits(s: &[u8], v: usize, n: usize, p: usize, j: usize) -> usize
     n
 }
 
-// Whether every bit from k on is 0.
-pub fn unused_zero(s: &[u8], k: usize) -> bool
-    ensures { λ r. ⌜ r ≡ unusedZero (now (s .entry)) k ⌝ }
-{
-    let mut at = k / 8;
-    let mut r = k % 8;
-    while at < s.len() {
-        if s[at] >> r != 0 {
-            return false;
-        }
-        r = 0;
-        at += 1;
-    }
-    true
-}
-
 // Bit r of the byte x.
-pub fn digit(x: u8, r: usize) -> usize
+fn digit(x: u8, r: usize) -> usize
     requires { ⌜ r < 8 ⌝ }
     ensures { λ d. ⌜ (d ≡ x / 2 ^ r % 2) × (d < 2) ⌝ }
 {
     ((x >> r) % 2) as usize
-}
-
-pub fn least(a: usize, b: usize) -> usize
-    ensures { λ r. ⌜ r ≡ min a b ⌝ }
-{
-    if a < b { a } else { b }
 }

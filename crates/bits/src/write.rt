@@ -1,5 +1,5 @@
 // Writing to lent memory: one bit, a run of zeros.
-use crate::read::least;
+use crate::numbers::least;
 ghost use mathlib.Core.Path.{_≡_};
 ghost use Prim.Native.Nat.{_<_};
 ghost use Rattle.bits.specs.Writes.{withBit, setBit, cleared};

@@ -2,14 +2,14 @@
 --
 -- Decides t P == the test t holds exactly if the proposition P does
 -- pick t x y  == x where the test t holds, else y
--- count P n   == how many x < n have P x
--- total f n   == f 1 + f 2 + .. + f n
--- all P n     == whether every x < n has P x
--- any P n     == whether some x < n has P x
--- find P n    == the least x < n that has P x; n where none has
--- nth P j n   == the x < n that has P x and j such numbers before it (the j-th, from 0); n where there is none
--- table f n   == the list f 0, f 1, .., f (n - 1)
--- gather P f n == the list of the f x, in order, of the x < n that have P x
+-- count P N   == how many x < N have P x
+-- total f N   == f 1 + f 2 + .. + f N
+-- all P N     == whether every x < N has P x
+-- any P N     == whether some x < N has P x
+-- find P N    == the least x < N that has P x; N where none has
+-- nth P j N   == the x < N that has P x and j such numbers before it (the j-th, from 0); N where there is none
+-- table f N   == the list f 0, f 1, .., f (N - 1)
+-- gather P f N == the list of the f x, in order, of the x < N that have P x
 --
 -- P is a test, a function into Bool; "P x" in words is P x ≡ true in a proof. Assumes nothing.
 use mathlib.Core.Path.{_≡_}
@@ -33,19 +33,19 @@ tick false k = k
 
 unfoldable pub count : (ℕ → Bool) → ℕ → ℕ
 count P zero = 0
-count P (suc n) = tick (P n) (count P n)
+count P (suc N) = tick (P N) (count P N)
 
 unfoldable pub total : (ℕ → ℕ) → ℕ → ℕ
 total f zero = 0
-total f (suc n) = total f n + f (suc n)
+total f (suc N) = total f N + f (suc N)
 
 unfoldable pub all : (ℕ → Bool) → ℕ → Bool
 all P zero = true
-all P (suc n) = P n && all P n
+all P (suc N) = P N && all P N
 
 unfoldable pub any : (ℕ → Bool) → ℕ → Bool
 any P zero = false
-any P (suc n) = P n || any P n
+any P (suc N) = P N || any P N
 
 -- the least x from `at` on that has P, among k numbers
 unfoldable pub findFrom : (ℕ → Bool) → ℕ → ℕ → ℕ
@@ -54,11 +54,11 @@ findFrom P at (suc k) = elim (P at) [ true ↦ at | false ↦ findFrom P (suc at
 
 unfoldable pub find : (ℕ → Bool) → ℕ → ℕ
 unfolding findFrom
-find P n = findFrom P 0 n
+find P N = findFrom P 0 N
 
 unfoldable pub nth : (ℕ → Bool) → ℕ → ℕ → ℕ
 unfolding find count
-nth P j n = find (λ x. P x && eqb (count P x) j) n
+nth P j N = find (λ x. P x && eqb (count P x) j) N
 
 -- f at, f (at + 1), .., k of them
 unfoldable pub tableFrom {ℓ} : {X : Type ℓ} → (ℕ → X) → ℕ → ℕ → List X
@@ -67,7 +67,7 @@ tableFrom f at (suc k) = f at ∷ tableFrom f (suc at) k
 
 unfoldable pub table {ℓ} : {X : Type ℓ} → (ℕ → X) → ℕ → List X
 unfolding tableFrom
-table f n = tableFrom f 0 n
+table f N = tableFrom f 0 N
 
 -- one element more where the test holds
 abbrev pub keep {ℓ} : {X : Type ℓ} → Bool → X → List X → List X
@@ -80,4 +80,4 @@ gatherFrom P f at (suc k) = keep (P at) (f at) (gatherFrom P f (suc at) k)
 
 unfoldable pub gather {ℓ} : {X : Type ℓ} → (ℕ → Bool) → (ℕ → X) → ℕ → List X
 unfolding gatherFrom
-gather P f n = gatherFrom P f 0 n
+gather P f N = gatherFrom P f 0 N

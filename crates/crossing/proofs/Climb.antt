@@ -2,7 +2,7 @@
 --
 -- pair-below, pair-not  == the smaller number first
 -- opened-is             == a border that stands on the stack
--- Climbing n k e w i    == border e stands on the stack of k, no lower than place i
+-- Climbing places k e w i    == border e stands on the stack of k, no lower than place i
 -- above-..              == the way up to a border on the stack
 -- Assumes nothing.
 use mathlib.Core.Path.{_≡_, sym, ap, _∙_}
@@ -39,28 +39,28 @@ opened-place w i x e l = omega arith
 pub ruleset opened-all = (opened-is, opened-place, needs)
 
 -- ---- above
-pub record Climbing (n k e : ℕ) (w : List ℕ) (i : ℕ) : Type 0 where
-  pub stands : Stands n k e w
+pub record Climbing (places k e : ℕ) (w : List ℕ) (i : ℕ) : Type 0 where
+  pub stands : Stands places k e w
   pub up-to : i ≤ stands .j
 
-pub above-start : (n k e : ℕ) (w : List ℕ) → Stands n k e w → Climbing n k e w 0
-above-start n k e w S = record { stands = S; up-to = omega arith }
+pub above-start : (places k e : ℕ) (w : List ℕ) → Stands places k e w → Climbing places k e w 0
+above-start places k e w S = record { stands = S; up-to = omega arith }
 
-module _ (n k e : ℕ) (w : List ℕ) (i : ℕ) (L : Climbing n k e w i) where
+module _ (places k e : ℕ) (w : List ℕ) (i : ℕ) (L : Climbing places k e w i) where
   pub above-below : i + 1 < k
   above-below = omega (arith, L .up-to, L .stands .not-top)
 
-  pub above-room : 2 * n + i < length w
+  pub above-room : 2 * places + i < length w
   above-room = omega (arith, above-below, L .stands .room)
 
-  pub above-place : getD w (2 * n + i) 0 < length w
-  above-place = L .stands .places i (omega (arith, above-below))
+  pub above-place : getD w (2 * places + i) 0 < length w
+  above-place = L .stands .inside i (omega (arith, above-below))
 
-  pub above-room-next : 2 * n + (i + 1) < length w
+  pub above-room-next : 2 * places + (i + 1) < length w
   above-room-next = omega (arith, above-below, L .stands .room)
 
-  pub above-place-next : getD w (2 * n + (i + 1)) 0 < length w
-  above-place-next = L .stands .places (i + 1) above-below
+  pub above-place-next : getD w (2 * places + (i + 1)) 0 < length w
+  above-place-next = L .stands .inside (i + 1) above-below
 
   pub above-fits : Fits w64 k → Fits w64 (i + 1)
   above-fits F = record { fits = omega (arith, above-below, F .fits) }
@@ -68,19 +68,19 @@ module _ (n k e : ℕ) (w : List ℕ) (i : ℕ) (L : Climbing n k e w i) where
   pub above-less : k - (i + 1) < k - i
   above-less = omega (arith, above-below)
 
-  module _ (r : ℕ) (q : r ≡ borderIn w (getD w (2 * n + i) 0)) where
-    pub above-more : (r ≡ e → ⊥) → Climbing n k e w (i + 1)
+  module _ (r : ℕ) (q : r ≡ borderIn w (getD w (2 * places + i) 0)) where
+    pub above-more : (r ≡ e → ⊥) → Climbing places k e w (i + 1)
     above-more d =
         record {
           stands = L .stands;
           up-to =
               elim (same-or-not i (L .stands .j)) [
-                | inl s ↦ absurd (d (q ∙ ap (λ x. borderIn w (placeIn n w x)) s ∙ L .stands .is-there))
+                | inl s ↦ absurd (d (q ∙ ap (λ x. borderIn w (placeIn places w x)) s ∙ L .stands .is-there))
                 | inr f ↦ omega (arith, L .up-to)
               ];
         }
 
-    pub above-there : r ≡ e → (x : ℕ) → x ≡ borderIn w (getD w (2 * n + (i + 1)) 0) → Above n k e w x
+    pub above-there : r ≡ e → (x : ℕ) → x ≡ borderIn w (getD w (2 * places + (i + 1)) 0) → Above places k e w x
     above-there h x p = record { j = i; not-top = above-below; is-there = sym q ∙ h; next = p }
 
 pub ruleset above-all = (

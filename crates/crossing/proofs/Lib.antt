@@ -2,3 +2,4 @@
 pub mod Nests
 pub mod Climb
 pub mod Stack
+pub mod Emptied

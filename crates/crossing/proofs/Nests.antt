@@ -2,7 +2,7 @@
 --
 -- two-places       == a border has two places
 -- Open ms t p q    == q is the one place before p of an unmarked border
--- Stacked ms n t p k st == the places open at p stand on the stack st of k, the latest on top, and whatever closed before p was on top
+-- Stacked ms places t p k st == the places open at p stand on the stack st of k, the latest on top, and whatever closed before p was on top
 -- stacked-start, stacked-skip, stacked-push, stacked-pop == from one position to the next
 -- stacked-none     == at the end no two unmarked borders alternate
 -- stacked-open     == the first place of a border that closes is open, and so on the stack
@@ -21,9 +21,9 @@ use Rattle.drawing.specs.Drawing.{border, other}
 use Rattle.drawing.proofs.Ends.{other-below, other-border, other-moves, border-two}
 use Rattle.touring.specs.Working.{Crosses}
 
-pub two-places : (n : ℕ) (t : ℕ → ℕ) → Permutes n t → (f g h : ℕ) → f < n → g < n → h < n
+pub two-places : (places : ℕ) (t : ℕ → ℕ) → Permutes places t → (f g h : ℕ) → f < places → g < places → h < places
     → border (t f) ≡ border (t h) → border (t g) ≡ border (t h) → f ≢ h → g ≢ h → f ≡ g
-two-places n t P f g h bf bg bh p q d e =
+two-places places t P f g h bf bg bh p q d e =
     elim (border-two (t f) (t h) p) [
       | inl a ↦ absurd (d (P .injective f h bf bh a))
       | inr a ↦
@@ -38,15 +38,15 @@ pub record Open (ms : List ℕ) (t : ℕ → ℕ) (p q : ℕ) : Type 0 where
   pub unmarked : getD ms (border (t q)) 0 ≢ 1
   pub only : (r : ℕ) → r < p → border (t r) ≡ border (t q) → r ≡ q
 
-pub record Stacked (ms : List ℕ) (n : ℕ) (t : ℕ → ℕ) (p k : ℕ) (st : ℕ → ℕ) : Type 0 where
-  pub within : p ≤ n
+pub record Stacked (ms : List ℕ) (places : ℕ) (t : ℕ → ℕ) (p k : ℕ) (st : ℕ → ℕ) : Type 0 where
+  pub within : p ≤ places
   pub fits : k ≤ p
   pub opened : (i : ℕ) → i < k → Open ms t p (st i)
   pub rising : (i j : ℕ) → i < j → j < k → st i < st j
   pub holds : (q : ℕ) → Open ms t p q → (i : ℕ) × (i < k) × (st i ≡ q)
   pub nests : (x y z : ℕ) → x < y → y < z → z < p → border (t x) ≡ border (t z) → getD ms (border (t x)) 0 ≢ 1 → Open ms t z y → ⊥
 
-module _ (ms : List ℕ) (n : ℕ) (t : ℕ → ℕ) where
+module _ (ms : List ℕ) (places : ℕ) (t : ℕ → ℕ) where
   -- a place that is open stays so past a position of another border
   open-more : (p q : ℕ) → Open ms t p q → border (t p) ≢ border (t q) → Open ms t (p + 1) q
   open-more p q O d =
@@ -63,7 +63,7 @@ module _ (ms : List ℕ) (n : ℕ) (t : ℕ → ℕ) where
   open-less p q O d =
       record { before = omega (arith, O .before); unmarked = O .unmarked; only = λ r l e. O .only r (omega arith) e }
 
-  pub stacked-start : (st : ℕ → ℕ) → Stacked ms n t 0 0 st
+  pub stacked-start : (st : ℕ → ℕ) → Stacked ms places t 0 0 st
   stacked-start st =
       record {
         within = omega arith;
@@ -74,8 +74,8 @@ module _ (ms : List ℕ) (n : ℕ) (t : ℕ → ℕ) where
         nests = λ x y z h k l e u O. omega arith;
       }
 
-  module _ (p k : ℕ) (st : ℕ → ℕ) (S : Stacked ms n t p k st) (l : p < n) where
-    pub stacked-skip : (st' : ℕ → ℕ) → ((i : ℕ) → i < k → st' i ≡ st i) → getD ms (border (t p)) 0 ≡ 1 → Stacked ms n t (p + 1) k st'
+  module _ (p k : ℕ) (st : ℕ → ℕ) (S : Stacked ms places t p k st) (l : p < places) where
+    pub stacked-skip : (st' : ℕ → ℕ) → ((i : ℕ) → i < k → st' i ≡ st i) → getD ms (border (t p)) 0 ≡ 1 → Stacked ms places t (p + 1) k st'
     stacked-skip st' same m =
         -- the marked border is none of the unmarked ones
         let apart : (q : ℕ) → getD ms (border (t q)) 0 ≢ 1 → border (t p) ≢ border (t q)
@@ -99,7 +99,7 @@ module _ (ms : List ℕ) (n : ℕ) (t : ℕ → ℕ) where
 
     module _ (u : getD ms (border (t p)) 0 ≢ 1) where
       pub stacked-push : (st' : ℕ → ℕ) → ((i : ℕ) → i < k → st' i ≡ st i) → st' k ≡ p
-          → ((r : ℕ) → r < p → border (t r) ≢ border (t p)) → Stacked ms n t (p + 1) (k + 1) st'
+          → ((r : ℕ) → r < p → border (t r) ≢ border (t p)) → Stacked ms places t (p + 1) (k + 1) st'
       stacked-push st' same top first =
           record {
             within = omega arith;
@@ -139,7 +139,7 @@ module _ (ms : List ℕ) (n : ℕ) (t : ℕ → ℕ) where
           }
 
       module _ (j : ℕ) (jk : k ≡ j + 1) where
-        pub stacked-pop : (st' : ℕ → ℕ) → ((i : ℕ) → i < k → st' i ≡ st i) → border (t (st j)) ≡ border (t p) → Stacked ms n t (p + 1) j st'
+        pub stacked-pop : (st' : ℕ → ℕ) → ((i : ℕ) → i < k → st' i ≡ st i) → border (t (st j)) ≡ border (t p) → Stacked ms places t (p + 1) j st'
         stacked-pop st' same top =
             let bj : j < k = omega arith in
             let T = S .opened j bj in
@@ -185,8 +185,8 @@ module _ (ms : List ℕ) (n : ℕ) (t : ℕ → ℕ) where
                   ];
             }
 
-  module _ (P : Permutes n t) (p k : ℕ) (st : ℕ → ℕ) (S : Stacked ms n t p k st) where
-    pub stacked-none : n ≤ p → (a b : ℕ) → Crosses ms n t a b → ⊥
+  module _ (P : Permutes places t) (p k : ℕ) (st : ℕ → ℕ) (S : Stacked ms places t p k st) where
+    pub stacked-none : places ≤ p → (a b : ℕ) → Crosses ms places t a b → ⊥
     stacked-none l a b X =
         let s : ℕ = X .s in
         S .nests (X .p) (X .q) (X .r) (X .p-q) (X .q-r) (omega (arith, X .r-s, X .s-end)) (X .at-p ∙ sym (X .at-r))
@@ -195,27 +195,27 @@ module _ (ms : List ℕ) (n : ℕ) (t : ℕ → ℕ) where
           before = X .q-r;
           unmarked = λ e. X .second-unmarked (ap (λ i. getD ms i 0) (sym (X .at-q)) ∙ e);
           only = λ r h e.
-              two-places n t P r (X .q) (X .s) (omega (arith, X .r-s, X .s-end)) (omega (arith, X .q-r, X .r-s, X .s-end)) (X .s-end)
+              two-places places t P r (X .q) (X .s) (omega (arith, X .r-s, X .s-end)) (omega (arith, X .q-r, X .r-s, X .s-end)) (X .s-end)
               (e ∙ X .at-q ∙ sym (X .at-s))
               (X .at-q ∙ sym (X .at-s))
               (omega (arith, X .r-s))
               (omega (arith, X .q-r, X .r-s));
         })
 
-    module _ (l : p < n) (u : getD ms (border (t p)) 0 ≢ 1) (q : ℕ) (h : q < p) (e : border (t q) ≡ border (t p)) where
+    module _ (l : p < places) (u : getD ms (border (t p)) 0 ≢ 1) (q : ℕ) (h : q < p) (e : border (t q) ≡ border (t p)) where
       pub stacked-open : Open ms t p q
       stacked-open =
           record {
             before = h;
             unmarked = λ m. u (ap (λ i. getD ms i 0) (sym e) ∙ m);
-            only = λ r b f. two-places n t P r q p (omega arith) (omega arith) l (f ∙ e) e (omega arith) (omega arith);
+            only = λ r b f. two-places places t P r q p (omega arith) (omega arith) l (f ∙ e) e (omega arith) (omega arith);
           }
 
       pub stacked-there : (i : ℕ) × (i < k) × (st i ≡ q)
       stacked-there = S .holds q stacked-open
 
-    pub stacked-crosses : (m : ℕ) → n ≡ m + m → p < n → getD ms (border (t p)) 0 ≢ 1 → (i : ℕ) → i + 1 < k → border (t (st i)) ≡ border (t p)
-        → Crosses ms n t (border (t p)) (border (t (st (i + 1))))
+    pub stacked-crosses : (m : ℕ) → places ≡ m + m → p < places → getD ms (border (t p)) 0 ≢ 1 → (i : ℕ) → i + 1 < k → border (t (st i)) ≡ border (t p)
+        → Crosses ms places t (border (t p)) (border (t (st (i + 1))))
     stacked-crosses m even l u i b e =
         let bi : i < k = omega arith in
         let q : ℕ = st i in
@@ -223,13 +223,13 @@ module _ (ms : List ℕ) (n : ℕ) (t : ℕ → ℕ) where
         let O : Open ms t p q = S .opened i bi in
         let Y : Open ms t p y = S .opened (i + 1) b in
         let up : q < y = S .rising i (i + 1) (omega arith) b in
-        let by : y < n = omega (arith, Y .before) in
+        let by : y < places = omega (arith, Y .before) in
         -- they are two borders
         let two : border (t p) ≢ border (t y)
         = λ f. (let s : y ≡ q = O .only y (Y .before) (sym f ∙ sym e) in omega arith) in
         -- the other place of the border above
-        let other-there : other (t y) < n = rw even (other-double m (t y) (rw even at (P .below y by))) in
-        let s = injective-onto t n (P .below) (P .injective) (other (t y)) other-there in
+        let other-there : other (t y) < places = rw even (other-double m (t y) (rw even at (P .below y by))) in
+        let s = injective-onto t places (P .below) (P .injective) (other (t y)) other-there in
         let same : border (t (s .0)) ≡ border (t y) = ap border (s .2) ∙ other-border (t y) in
         let away : s .0 ≢ y = λ f. other-moves (t y) (sym (s .2) ∙ ap t f) in
         let late : p ≤ s .0 =

@@ -23,7 +23,7 @@ use Rattle.drawing.specs.Drawing.{border}
 use Rattle.drawing.proofs.Ends.{border-below}
 use Rattle.crossing.specs.declared.find.Found.{Found}
 use Rattle.crossing.specs.declared.find.Found.the-variants as the-case
-use Rattle.touring.specs.Working.{Outside, Charted, Crosses, endIn, borderIn, met}
+use Rattle.touring.specs.Working.{Outside, Charted, Crosses, tourIn, borderIn, met}
 use Rattle.crossing.specs.Finding.{Finds, Stands, Above, placeIn, smallerFirst}
 use Rattle.touring.proofs.Outside.{outside-none, outside-set}
 use Rattle.crossing.proofs.Nests.{Stacked, stacked-start, stacked-skip, stacked-push, stacked-pop, stacked-none, stacked-there, stacked-crosses}
@@ -34,19 +34,19 @@ double ms = 2 * length ms
 
 pub record Nesting (ms old : List ℕ) (p k : ℕ) (w : List ℕ) : Type 0 where
   pub outside : Outside (2 * double ms) (3 * double ms) old w
-  pub stack : Stacked ms (double ms) (endIn old) p k (placeIn (double ms) w)
+  pub stack : Stacked ms (double ms) (tourIn old) p k (placeIn (double ms) w)
 
 module _ (ms old : List ℕ) (C : Charted (double ms) old) where
   pub nesting-start : Nesting ms old 0 0 old
   nesting-start =
       record {
         outside = outside-none (2 * double ms) (3 * double ms) old;
-        stack = stacked-start ms (double ms) (endIn old) (placeIn (double ms) old);
+        stack = stacked-start ms (double ms) (tourIn old) (placeIn (double ms) old);
       }
 
   module _ (p k : ℕ) (w : List ℕ) (N : Nesting ms old p k w) where
-    abbrev n : ℕ
-    n = double ms
+    abbrev places : ℕ
+    places = double ms
 
     pub nesting-length : length w ≡ length old
     nesting-length = N .outside .same-length
@@ -54,42 +54,42 @@ module _ (ms old : List ℕ) (C : Charted (double ms) old) where
     pub nesting-outside : Outside (2 * double ms) (3 * double ms) old w
     nesting-outside = N .outside
 
-    pub nesting-none : n ≤ p → (a b : ℕ) → Crosses ms n (endIn old) a b → ⊥
-    nesting-none l = stacked-none ms n (endIn old) (C .once) p k (placeIn n w) (N .stack) l
+    pub nesting-none : places ≤ p → (a b : ℕ) → Crosses ms places (tourIn old) a b → ⊥
+    nesting-none l = stacked-none ms places (tourIn old) (C .once) p k (placeIn places w) (N .stack) l
 
     -- what is read of the first two thirds is as it was
-    same-read : (i : ℕ) → i < 2 * n → getD w i 0 ≡ getD old i 0
+    same-read : (i : ℕ) → i < 2 * places → getD w i 0 ≡ getD old i 0
     same-read i l = N .outside .before i l
 
-    place-below : (i : ℕ) → i < k → placeIn n w i < p
+    place-below : (i : ℕ) → i < k → placeIn places w i < p
     place-below i l = N .stack .opened i l .before
 
-    same-border : (i : ℕ) → i < k → borderIn w (placeIn n w i) ≡ border (endIn old (placeIn n w i))
-    same-border i l = ap border (same-read (placeIn n w i) (omega (arith, place-below i l, N .stack .within)))
+    same-border : (i : ℕ) → i < k → borderIn w (placeIn places w i) ≡ border (tourIn old (placeIn places w i))
+    same-border i l = ap border (same-read (placeIn places w i) (omega (arith, place-below i l, N .stack .within)))
 
-    pub nesting-place : (i : ℕ) → i < k → placeIn n w i < length w
+    pub nesting-place : (i : ℕ) → i < k → placeIn places w i < length w
     nesting-place i l = omega (arith, place-below i l, N .stack .within, C .room, nesting-length)
 
-    module _ (l : p < n) where
+    module _ (l : p < places) where
       pub nesting-here : p < length w
       nesting-here = omega (arith, C .room, nesting-length)
 
-      pub nesting-flag : n + p < length w
+      pub nesting-flag : places + p < length w
       nesting-flag = omega (arith, C .room, nesting-length)
 
-      pub nesting-top : 2 * n + k < length w
+      pub nesting-top : 2 * places + k < length w
       nesting-top = omega (arith, C .room, nesting-length, N .stack .fits)
 
-      pub nesting-sum : Fits w64 (n + p)
+      pub nesting-sum : Fits w64 (places + p)
       nesting-sum = record { fits = omega (arith, C .small) }
 
-      pub nesting-scaled : Fits w64 ((n + p) * 2)
+      pub nesting-scaled : Fits w64 ((places + p) * 2)
       nesting-scaled = record { fits = omega (arith, C .small) }
 
-      pub nesting-top-sum : Fits w64 (2 * n + k)
+      pub nesting-top-sum : Fits w64 (2 * places + k)
       nesting-top-sum = record { fits = omega (arith, C .small, N .stack .fits) }
 
-      pub nesting-top-scaled : Fits w64 ((2 * n + k) * 2)
+      pub nesting-top-scaled : Fits w64 ((2 * places + k) * 2)
       nesting-top-scaled = record { fits = omega (arith, C .small, N .stack .fits) }
 
       pub nesting-narrow : Fits w16 p
@@ -99,11 +99,11 @@ module _ (ms old : List ℕ) (C : Charted (double ms) old) where
       nesting-height = record { fits = omega (arith, C .small, N .stack .fits) }
 
       module _ (e : ℕ) (q : e ≡ borderIn w p) where
-        is-border : e ≡ border (endIn old p)
+        is-border : e ≡ border (tourIn old p)
         is-border = q ∙ ap border (same-read p (omega arith))
 
         pub nesting-border : e < length ms
-        nesting-border = rw is-border (border-below (length ms) (endIn old p) (C .once .below p l))
+        nesting-border = rw is-border (border-below (length ms) (tourIn old p) (C .once .below p l))
 
         pub nesting-skip : (getD ms e 0 ≡ 1) → (j : ℕ) (v : List ℕ) → j ≡ k → v ≡ w → Nesting ms old (p + 1) j v
         nesting-skip m j v f g =
@@ -111,59 +111,59 @@ module _ (ms old : List ℕ) (C : Charted (double ms) old) where
             (record {
               outside = N .outside;
               stack =
-                  stacked-skip ms n (endIn old) p k (placeIn n w) (N .stack) l (placeIn n w) (λ i h. refl)
+                  stacked-skip ms places (tourIn old) p k (placeIn places w) (N .stack) l (placeIn places w) (λ i h. refl)
                   (ap (λ x. getD ms x 0) (sym is-border) ∙ m);
             })
 
         module _ (u : getD ms e 0 ≡ 1 → ⊥) where
-          unmarked-here : getD ms (border (endIn old p)) 0 ≢ 1
+          unmarked-here : getD ms (border (tourIn old p)) 0 ≢ 1
           unmarked-here m = u (ap (λ x. getD ms x 0) is-border ∙ m)
 
-          pub nesting-push : getD w (n + p) 0 ≡ 0 → (j : ℕ) (v : List ℕ) → j ≡ k + 1 → v ≡ set w (2 * n + k) p → Nesting ms old (p + 1) j v
+          pub nesting-push : getD w (places + p) 0 ≡ 0 → (j : ℕ) (v : List ℕ) → j ≡ k + 1 → v ≡ set w (2 * places + k) p → Nesting ms old (p + 1) j v
           unfolding met
           nesting-push z j v f g =
-              let b : 2 * n + k < 3 * n = omega (arith, N .stack .fits) in
+              let b : 2 * places + k < 3 * places = omega (arith, N .stack .fits) in
               rw (f, g)
               (record {
-                outside = outside-set (2 * n) (3 * n) old w (2 * n + k) p (N .outside) (omega arith) b;
+                outside = outside-set (2 * places) (3 * places) old w (2 * places + k) p (N .outside) (omega arith) b;
                 stack =
-                    stacked-push ms n (endIn old) p k (placeIn n w) (N .stack) l unmarked-here (placeIn n (set w (2 * n + k) p))
-                    (λ i h. getD-set-other w (2 * n + k) (2 * n + i) p 0 (omega arith))
-                    (getD-set-same w (2 * n + k) p 0 nesting-top)
+                    stacked-push ms places (tourIn old) p k (placeIn places w) (N .stack) l unmarked-here (placeIn places (set w (2 * places + k) p))
+                    (λ i h. getD-set-other w (2 * places + k) (2 * places + i) p 0 (omega arith))
+                    (getD-set-same w (2 * places + k) p 0 nesting-top)
                     (λ r h s.
-                    let P : ℕ → Bool = λ x. eqb (border (endIn old x)) (border (endIn old p)) in
-                    let t : any P p ≡ true = any-from P p r h (eq-eqb (border (endIn old r)) (border (endIn old p)) s) in
-                    let o : getD old (n + p) 0 ≡ 1 = C .second p l ∙ ap (λ x. pick x 1 0) t in
-                    omega (arith, same-read (n + p) (omega arith)));
+                    let P : ℕ → Bool = λ x. eqb (border (tourIn old x)) (border (tourIn old p)) in
+                    let t : any P p ≡ true = any-from P p r h (eq-eqb (border (tourIn old r)) (border (tourIn old p)) s) in
+                    let o : getD old (places + p) 0 ≡ 1 = C .second p l ∙ ap (λ x. pick x 1 0) t in
+                    omega (arith, same-read (places + p) (omega arith)));
               })
 
-          module _ (z : getD w (n + p) 0 ≡ 0 → ⊥) where
+          module _ (z : getD w (places + p) 0 ≡ 0 → ⊥) where
             -- the border was met before
-            first-place : (q : ℕ) × (q < p) × (border (endIn old q) ≡ border (endIn old p))
+            first-place : (q : ℕ) × (q < p) × (border (tourIn old q) ≡ border (tourIn old p))
             unfolding met
             first-place =
-                let P : ℕ → Bool = λ x. eqb (border (endIn old x)) (border (endIn old p)) in
+                let P : ℕ → Bool = λ x. eqb (border (tourIn old x)) (border (tourIn old p)) in
                 elim (true-or-false (any P p)) [
                   | inl t ↦
                       let r = any-has P p t in
-                      (r .0, r .1, eqb-true (border (endIn old (r .0))) (border (endIn old p)) (r .2))
-                  | inr f ↦ absurd (z (same-read (n + p) (omega arith) ∙ C .second p l ∙ ap (λ x. pick x 1 0) f))
+                      (r .0, r .1, eqb-true (border (tourIn old (r .0))) (border (tourIn old p)) (r .2))
+                  | inr f ↦ absurd (z (same-read (places + p) (omega arith) ∙ C .second p l ∙ ap (λ x. pick x 1 0) f))
                 ]
 
-            on-stack : (i : ℕ) × (i < k) × (placeIn n w i ≡ first-place .0)
+            on-stack : (i : ℕ) × (i < k) × (placeIn places w i ≡ first-place .0)
             on-stack =
-                stacked-there ms n (endIn old) (C .once) p k (placeIn n w) (N .stack) l unmarked-here (first-place .0) (first-place .1) (first-place .2)
+                stacked-there ms places (tourIn old) (C .once) p k (placeIn places w) (N .stack) l unmarked-here (first-place .0) (first-place .1) (first-place .2)
 
             pub nesting-some : 1 ≤ k
             nesting-some = omega (arith, on-stack .1)
 
-            pub nesting-last : 2 * n + (k - 1) < length w
+            pub nesting-last : 2 * places + (k - 1) < length w
             nesting-last = omega (arith, nesting-top)
 
-            pub nesting-last-place : getD w (2 * n + (k - 1)) 0 < length w
+            pub nesting-last-place : getD w (2 * places + (k - 1)) 0 < length w
             nesting-last-place = nesting-place (k - 1) (omega (arith, on-stack .1))
 
-            module _ (r : ℕ) (h : r ≡ borderIn w (getD w (2 * n + (k - 1)) 0)) where
+            module _ (r : ℕ) (h : r ≡ borderIn w (getD w (2 * places + (k - 1)) 0)) where
               last : k - 1 < k
               last = omega (arith, on-stack .1)
 
@@ -173,36 +173,36 @@ module _ (ms old : List ℕ) (C : Charted (double ms) old) where
                   (record {
                     outside = N .outside;
                     stack =
-                        stacked-pop ms n (endIn old) p k (placeIn n w) (N .stack) l unmarked-here (k - 1) (omega (arith, on-stack .1))
-                        (placeIn n w) (λ i b. refl) (sym (same-border (k - 1) last) ∙ sym h ∙ s ∙ is-border);
+                        stacked-pop ms places (tourIn old) p k (placeIn places w) (N .stack) l unmarked-here (k - 1) (omega (arith, on-stack .1))
+                        (placeIn places w) (λ i b. refl) (sym (same-border (k - 1) last) ∙ sym h ∙ s ∙ is-border);
                   })
 
               module _ (d : r ≡ e → ⊥) where
-                pub nesting-stands : Stands n k e w
+                pub nesting-stands : Stands places k e w
                 nesting-stands =
                     let i : ℕ = on-stack .0 in
-                    let at-i : borderIn w (placeIn n w i) ≡ e
-                    = same-border i (on-stack .1) ∙ ap (λ x. border (endIn old x)) (on-stack .2) ∙ first-place .2 ∙ sym is-border in
-                    let not-last : i ≢ k - 1 = λ s. d (h ∙ ap (λ x. borderIn w (placeIn n w x)) (sym s) ∙ at-i) in
+                    let at-i : borderIn w (placeIn places w i) ≡ e
+                    = same-border i (on-stack .1) ∙ ap (λ x. border (tourIn old x)) (on-stack .2) ∙ first-place .2 ∙ sym is-border in
+                    let not-last : i ≢ k - 1 = λ s. d (h ∙ ap (λ x. borderIn w (placeIn places w x)) (sym s) ∙ at-i) in
                     record {
                       room = omega (arith, nesting-top);
-                      places = nesting-place;
+                      inside = nesting-place;
                       j = i;
                       not-top = omega (arith, on-stack .1);
                       is-there = at-i;
                     }
 
-                pub nesting-found : (a : ℕ) → Above n k e w a → (x : Found) → x ≡ smallerFirst e a → Finds ms n (endIn old) x
+                pub nesting-found : (a : ℕ) → Above places k e w a → (x : Found) → x ≡ smallerFirst e a → Finds ms places (tourIn old) x
                 nesting-found a A x f =
                     let bj : A .j < k = omega (arith, A .not-top) in
-                    let up : a ≡ border (endIn old (placeIn n w (A .j + 1))) = A .next ∙ same-border (A .j + 1) (A .not-top) in
-                    let X : Crosses ms n (endIn old) (border (endIn old p)) (border (endIn old (placeIn n w (A .j + 1))))
-                    = stacked-crosses ms n (endIn old) (C .once) p k (placeIn n w) (N .stack) (length ms) (omega arith) l unmarked-here (A .j) (A .not-top)
+                    let up : a ≡ border (tourIn old (placeIn places w (A .j + 1))) = A .next ∙ same-border (A .j + 1) (A .not-top) in
+                    let X : Crosses ms places (tourIn old) (border (tourIn old p)) (border (tourIn old (placeIn places w (A .j + 1))))
+                    = stacked-crosses ms places (tourIn old) (C .once) p k (placeIn places w) (N .stack) (length ms) (omega arith) l unmarked-here (A .j) (A .not-top)
                     (sym (same-border (A .j) bj) ∙ A .is-there ∙ is-border) in
-                    let Y : Crosses ms n (endIn old) e a = rw (is-border, up) X in
+                    let Y : Crosses ms places (tourIn old) e a = rw (is-border, up) X in
                     rw f (found e a Y)
                   where
-                    found : (e a : ℕ) → Crosses ms n (endIn old) e a → Finds ms n (endIn old) (smallerFirst e a)
+                    found : (e a : ℕ) → Crosses ms places (tourIn old) e a → Finds ms places (tourIn old) (smallerFirst e a)
                     found e a Y =
                         elim (lt-or-ge e a) [
                           | inl b ↦ rw (lt-ltb e a b) (b, inl Y)

@@ -1,10 +1,10 @@
 // Check 7: two unmarked borders that alternate in the tour.
-use survey::wide;
+use checking::wide;
 use touring::border_in;
 ghost use mathlib.Core.Path.{_≡_};
 ghost use Prim.Native.Nat.{_+_, _*_, _<_};
 ghost use lib.ListN.{length, getD};
-ghost use Rattle.touring.specs.Working.{Outside, Charted, endIn, borderIn};
+ghost use Rattle.touring.specs.Working.{Outside, Zeroed, Charted, tourIn, borderIn};
 ghost use Rattle.crossing.specs.Finding.{Finds, Stands, Above, smallerFirst};
 
 pub enum Found {
@@ -12,25 +12,39 @@ pub enum Found {
     Nothing,
 }
 
-// A pair of unmarked borders that alternate in the tour. The last third is a stack: the first places of the unmarked
-// borders that are open. Where a border closes that is not on top, it alternates with the one above it.
+// A pair of unmarked borders that alternate in the tour, or that there is none. The last third of the list is left 0.
 pub fn find_crossing(marks: &[u8], work: &mut [u16]) -> Found
     requires { ⌜ Charted (2 * length (now marks)) (now work) ⌝ }
-    ensures { λ r. ⌜ Finds (now (marks .entry)) (2 * length (now (marks .entry))) (endIn (now (work .entry))) r ⌝ }
-    ensures { λ _. ⌜ Outside (2 * (2 * length (now (marks .entry)))) (3 * (2 * length (now (marks .entry)))) (now (work .entry)) (now (work .exit)) ⌝ }
+    ensures { λ r. ⌜ Finds (now (marks .entry)) (2 * length (now (marks .entry))) (tourIn (now (work .entry))) r ⌝ }
+    ensures { λ _. ⌜ Zeroed (2 * (2 * length (now (marks .entry)))) (3 * (2 * length (now (marks .entry))))
+        (now (work .entry)) (now (work .exit)) ⌝ }
 {
-    let n = 2 * marks.len();
+    let found = follow(marks, work);
+    let places = 2 * marks.len();
+    bits::clear(&mut work[2 * places..3 * places], places);
+    found
+}
+
+// Follows the tour. The last third is a stack: the first places of the unmarked borders that are open. Where a border
+// closes that is not on top, it alternates with the one above it.
+fn follow(marks: &[u8], work: &mut [u16]) -> Found
+    requires { ⌜ Charted (2 * length (now marks)) (now work) ⌝ }
+    ensures { λ r. ⌜ Finds (now (marks .entry)) (2 * length (now (marks .entry))) (tourIn (now (work .entry))) r ⌝ }
+    ensures { λ _. ⌜ Outside (2 * (2 * length (now (marks .entry)))) (3 * (2 * length (now (marks .entry))))
+        (now (work .entry)) (now (work .exit)) ⌝ }
+{
+    let places = 2 * marks.len();
     let mut p = 0;
     let mut k: usize = 0;
-    while p < n {
+    while p < places {
         let e = border_in(work, p);
         if marks[e] != 1 {
-            if work[n + p] == 0 {
-                work[2 * n + k] = p as u16;
+            if work[places + p] == 0 {
+                work[2 * places + k] = p as u16;
                 k += 1;
             } else {
-                if opened(work, n, k - 1) != e {
-                    return pair(e, above(work, n, k, e));
+                if opened(work, places, k - 1) != e {
+                    return pair(e, above(work, places, k, e));
                 }
                 k -= 1;
             }
@@ -41,23 +55,24 @@ pub fn find_crossing(marks: &[u8], work: &mut [u16]) -> Found
 }
 
 // The border that stands at i on the stack.
-fn opened(work: &[u16], n: usize, i: usize) -> usize
-    requires { ⌜ (2 * n + i < length (now work)) × (getD (now work) (2 * n + i) 0 < length (now work)) ⌝ }
-    ensures { λ r. ⌜ r ≡ borderIn (now (work .entry)) (getD (now (work .entry)) (2 * n + i) 0) ⌝ }
+fn opened(work: &[u16], places: usize, i: usize) -> usize
+    requires { ⌜ (2 * places + i < length (now work))
+        × (getD (now work) (2 * places + i) 0 < length (now work)) ⌝ }
+    ensures { λ r. ⌜ r ≡ borderIn (now (work .entry)) (getD (now (work .entry)) (2 * places + i) 0) ⌝ }
 {
-    border_in(work, wide(work[2 * n + i]))
+    border_in(work, wide(work[2 * places + i]))
 }
 
 // The border directly above border e on the stack of k.
-fn above(work: &[u16], n: usize, k: usize, e: usize) -> usize
-    requires { ⌜ Stands n k e (now work) ⌝ }
-    ensures { λ r. ⌜ Above n k e (now (work .entry)) r ⌝ }
+fn above(work: &[u16], places: usize, k: usize, e: usize) -> usize
+    requires { ⌜ Stands places k e (now work) ⌝ }
+    ensures { λ r. ⌜ Above places k e (now (work .entry)) r ⌝ }
 {
     let mut i = 0;
-    while opened(work, n, i) != e {
+    while opened(work, places, i) != e {
         i += 1;
     }
-    opened(work, n, i + 1)
+    opened(work, places, i + 1)
 }
 
 // The two borders, the smaller first.

@@ -3,7 +3,7 @@
 //     find_crossing   7: a pair of unmarked borders that alternate in the tour, or that there is none
 //
 // Conventions. The working list holds the tour and its second places, as the crate `touring` leaves
-// them; its last third is used as a stack, and nothing else of it changes.
+// them; its last third is used as a stack and left 0, and nothing else of it changes.
 //
 // The definitions that the contracts cite are in specs/ and in the crate `touring`.
 mod find;

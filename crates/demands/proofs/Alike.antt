@@ -17,13 +17,15 @@ use Rattle.count.proofs.Search.{find-not}
 use Rattle.count.proofs.Counts.{count-none}
 use Rattle.count.proofs.Logic.{lt-or-ge, true-or-false, both-left, both-right, pick-yes, pick-no}
 use Rattle.words.specs.Brackets.{Balanced, mate, step, back, number, isFirst, isLast, first, size}
-use Rattle.words.specs.Word.{Family, round, square, Letter, Word, seen, crossing, view}
+use Rattle.words.specs.declared.family.Family.{Family}
+use Rattle.words.specs.declared.family.Family.the-variants.{Round as round, Square as square}
+use Rattle.words.specs.Word.{Letter, Word, seen, crossing, view}
 use Rattle.words.proofs.Step.{step-below}
 use Rattle.words.proofs.Same.{mate-same, step-same, back-same, number-same, isFirst-same, isLast-same, first-same, size-same}
-use Rattle.drawing.specs.Drawing.{Cell}
+use Rattle.drawing.specs.Drawing.{Kind}
 use Rattle.drawing.specs.Session.{Answer, answer, refused, Call}
-use Rattle.unpacking.proofs.Crossing.{crossing-below}
-use Rattle.format.specs.Calls.{familyOfCell, moveIn, atPlace, firstIn, placesIn, joinIn}
+use Rattle.roundtrip.proofs.Crossing.{crossing-below}
+use Rattle.format.specs.Calls.{familyOfKind, moveIn, atPlace, firstIn, placesIn, joinIn}
 
 pub record Alike (v w : Word) : Type 0 where
   pub sizes : v .size ≡ w .size
@@ -75,15 +77,15 @@ module _ (n : ℕ) (f g : ℕ → Letter) (same : (p : ℕ) → p < n → f p �
             ∙ sym (pick-no t (answer (moveIn (word n g) c (pred i))) (refused 13) e)
       ]
 
-  first-alike : (c : Cell) (k : ℕ) → firstIn (word n f) c k ≡ firstIn (word n g) c k
+  first-alike : (c : Kind) (k : ℕ) → firstIn (word n f) c k ≡ firstIn (word n g) c k
   unfolding firstIn
   first-alike c k =
       ap (λ x. pick (eqb n 0) 0 (suc x))
-      (first-same (seen (familyOfCell c) (word n f)) (seen (familyOfCell c) (word n g)) n (seen-same (familyOfCell c)) k)
+      (first-same (seen (familyOfKind c) (word n f)) (seen (familyOfKind c) (word n g)) n (seen-same (familyOfKind c)) k)
 
-  places-alike : (c : Cell) (k : ℕ) → placesIn (word n f) c k ≡ placesIn (word n g) c k
+  places-alike : (c : Kind) (k : ℕ) → placesIn (word n f) c k ≡ placesIn (word n g) c k
   unfolding placesIn
-  places-alike c k = size-same (seen (familyOfCell c) (word n f)) (seen (familyOfCell c) (word n g)) n (seen-same (familyOfCell c)) k
+  places-alike c k = size-same (seen (familyOfKind c) (word n f)) (seen (familyOfKind c) (word n g)) n (seen-same (familyOfKind c)) k
 
 -- one place more of the search, as a choice by its test
 join-step : (w : Word) (v k p : ℕ) → joinIn w v (suc k) p
@@ -125,10 +127,10 @@ module _ (P : Word → Word → Type 0) where
 pub alike-call : (v w : Word) → Alike v w → (c : Call) (i : ℕ) → atPlace v c i ≡ atPlace w c i
 alike-call v w a c i = alike (λ x y. atPlace x c i ≡ atPlace y c i) v w a (λ n f g s. call-same n f g s c i)
 
-pub alike-first : (v w : Word) → Alike v w → (c : Cell) (k : ℕ) → firstIn v c k ≡ firstIn w c k
+pub alike-first : (v w : Word) → Alike v w → (c : Kind) (k : ℕ) → firstIn v c k ≡ firstIn w c k
 alike-first v w a c k = alike (λ x y. firstIn x c k ≡ firstIn y c k) v w a (λ n f g s. first-alike n f g s c k)
 
-pub alike-places : (v w : Word) → Alike v w → (c : Cell) (k : ℕ) → placesIn v c k ≡ placesIn w c k
+pub alike-places : (v w : Word) → Alike v w → (c : Kind) (k : ℕ) → placesIn v c k ≡ placesIn w c k
 alike-places v w a c k = alike (λ x y. placesIn x c k ≡ placesIn y c k) v w a (λ n f g s. places-alike n f g s c k)
 
 alike-join : (v w : Word) → Alike v w → ((K : Family) → Balanced (seen K w) (w .size))
@@ -143,7 +145,7 @@ alike-lowest v w a K k =
     (λ n f g s. first-same (seen K (word n f)) (seen K (word n g)) n (seen-same n f g s K) k)
 
 -- a number that no position has is had by none
-places-none : (w : Word) (k : ℕ) → w .size ≤ first (seen round w) (w .size) k → placesIn w Cell.point k ≡ 0
+places-none : (w : Word) (k : ℕ) → w .size ≤ first (seen round w) (w .size) k → placesIn w Kind.point k ≡ 0
 unfolding placesIn size first
 places-none w k g =
     count-none (λ p. eqb (number (seen round w) p) k) (w .size)
@@ -155,14 +157,14 @@ join-none v w to p = refl
 
 -- the whole search for a joining border
 pub alike-joining : (v w : Word) → Alike v w → ((K : Family) → Balanced (seen K w) (w .size)) → (to u : ℕ)
-    → joinIn v to (placesIn v Cell.point u) (first (seen round v) (v .size) u)
-    ≡ joinIn w to (placesIn w Cell.point u) (first (seen round w) (w .size) u)
+    → joinIn v to (placesIn v Kind.point u) (first (seen round v) (v .size) u)
+    ≡ joinIn w to (placesIn w Kind.point u) (first (seen round w) (w .size) u)
 alike-joining v w a nested to u =
     let p : ℕ = first (seen round w) (w .size) u in
-    ap₂ (λ (k q : ℕ). joinIn v to k q) (alike-places v w a Cell.point u) (alike-lowest v w a round u)
+    ap₂ (λ (k q : ℕ). joinIn v to k q) (alike-places v w a Kind.point u) (alike-lowest v w a round u)
     ∙ elim (lt-or-ge p (w .size)) [
-      | inl l ↦ alike-join v w a nested to (placesIn w Cell.point u) p l
+      | inl l ↦ alike-join v w a nested to (placesIn w Kind.point u) p l
       | inr g ↦
-          let z : placesIn w Cell.point u ≡ 0 = places-none w u g in
+          let z : placesIn w Kind.point u ≡ 0 = places-none w u g in
           ap (λ (k : ℕ). joinIn v to k p) z ∙ join-none v w to p ∙ ap (λ (k : ℕ). joinIn w to k p) (sym z)
     ]

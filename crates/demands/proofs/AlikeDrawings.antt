@@ -13,14 +13,16 @@ use Rattle.count.proofs.Counts.{count-same}
 use Rattle.count.proofs.Search.{find-same}
 use Rattle.count.proofs.Lists.{table-same}
 use Rattle.words.specs.Brackets.{Balanced, step}
-use Rattle.words.specs.Word.{Family, round, Letter, Word, seen, crossing}
+use Rattle.words.specs.declared.family.Family.{Family}
+use Rattle.words.specs.declared.family.Family.the-variants.{Round as round}
+use Rattle.words.specs.Word.{Letter, Word, seen, crossing}
 use Rattle.words.proofs.Step.{step-below}
 use Rattle.words.proofs.Same.{step-same}
 use Rattle.drawing.specs.Drawing.{Drawing}
 use Rattle.format.specs.Bytes.{familyBit}
 use Rattle.format.specs.Pack.{opensBefore, endIn, positionIn, drawingOf}
-use Rattle.unpacking.proofs.Crossing.{crossing-below}
-use Rattle.unpacking.proofs.Ends.{position-in-below}
+use Rattle.roundtrip.proofs.Crossing.{crossing-below}
+use Rattle.roundtrip.proofs.Ends.{position-in-below}
 use Rattle.demands.proofs.Alike.{Alike, word, seen-same, crossing-same}
 
 module _ (n : ℕ) (f g : ℕ → Letter) (same : (p : ℕ) → p < n → f p ≡ g p) (nested : (K : Family) → Balanced (seen K (word n g)) n) where

@@ -2,7 +2,7 @@
 --
 -- opens-opened     == a call on bytes that open gives its own answer
 -- packed-call      == every call at every number on the packed bytes is the book's
--- packed-first, packed-places, packed-joining == so are first places, sizes and joining borders
+-- packed-first, packed-size-of, packed-joining == so are first places, sizes and joining borders
 -- Assumes nothing.
 use mathlib.Core.Path.{_≡_, refl, sym, ap, ap₂, _∙_}
 use mathlib.Core.Logic.{_⊎_, inl, inr}
@@ -15,24 +15,27 @@ use borrow.Author.Tests.{ltb-true, leb-true}
 use Rattle.count.specs.Below.{pick}
 use Rattle.count.proofs.Logic.{true-or-false, both-left, both-right, pick-yes, pick-no}
 use Rattle.words.specs.Brackets.{Balanced, first}
-use Rattle.words.specs.Word.{Family, round, Word, seen}
+use Rattle.words.specs.declared.family.Family.{Family}
+use Rattle.words.specs.declared.family.Family.the-variants.{Round as round}
+use Rattle.words.specs.Word.{Word, seen}
 use Rattle.words.proofs.Numbers.{openings, number-reached, first-inner}
 use Rattle.words.proofs.Same.{first-same}
-use Rattle.drawing.specs.Drawing.{Drawing, Cell, borders, ends, cells}
+use Rattle.drawing.specs.Drawing.{Drawing, Kind, borders, ends, cells}
 use Rattle.drawing.specs.Checks.{PassesSeven}
 use Rattle.drawing.specs.Session.{Answer, answer, refused, Call}
 use Rattle.drawing.specs.Book.{bookAnswer, bookFirst, bookSize, bookJoining, noSuch}
 use Rattle.format.specs.Bytes.{Size, sizeIn, wordIn}
 use Rattle.format.specs.Open.{openRefusal, afterRefusal, opened}
-use Rattle.format.specs.Calls.{mapAnswer, atPlace, cellsIn, isNumber, familyOfCell, firstIn, firstOf, placesIn, sizeOf, joinIn, joiningOf}
+use Rattle.format.specs.Calls.{mapAnswer, atPlace, cellsIn, isNumber, familyOfKind, firstIn, firstOf, placesIn, sizeOf, joinIn, joiningOf}
 use Rattle.format.specs.Pack.{wordOf, packedBytes}
 use Rattle.agreement.specs.Toured.{Toured}
+use Rattle.agreement.proofs.Passed.{passes-toured, packed-opens, packed-size}
 use Rattle.agreement.proofs.Counts.{cells-in, cells-agree}
 use Rattle.agreement.proofs.Nesting.{word-balanced}
 use Rattle.agreement.proofs.Steps.{cellWord}
 use Rattle.agreement.proofs.Book.{isNumbered, book-call, book-first, book-size, book-joining}
 use Rattle.demands.proofs.Alike.{Alike, alike-call, alike-first, alike-places, alike-joining}
-use Rattle.demands.proofs.Passed.{sizeFor, passes-toured, packed-opens, packed-size, packed-alike}
+use Rattle.demands.proofs.Faithful.{packed-alike}
 
 pub opens-opened : {A : Type 0} (s : List ℕ) (a : Answer A) → openRefusal s ≡ 0 → opened s a ≡ a
 unfolding opened
@@ -44,8 +47,8 @@ nested-word D seven K = word-balanced (passes-toured D seven) K
 
 joining-word : (D : Drawing) → PassesSeven D → (u v : ℕ)
     → bookJoining D u v
-    ≡ pick (isNumbered D Cell.point u && isNumbered D Cell.point v)
-    (answer (joinIn (wordOf D) v (placesIn (wordOf D) Cell.point u) (first (seen round (wordOf D)) (wordOf D .size) u)))
+    ≡ pick (isNumbered D Kind.point u && isNumbered D Kind.point v)
+    (answer (joinIn (wordOf D) v (placesIn (wordOf D) Kind.point u) (first (seen round (wordOf D)) (wordOf D .size) u)))
     (refused 14)
 unfolding wordOf
 joining-word D seven u v = book-joining (passes-toured D seven) u v
@@ -62,12 +65,12 @@ module _ (D : Drawing) (seven : PassesSeven D) where
       ∙ sym (book-call toured c i)
 
   -- the map's test of a number is the word's
-  number-test : (c : Cell) (k : ℕ) → isNumber (sizeIn (packedBytes D)) c k ≡ isNumbered D c k
+  number-test : (c : Kind) (k : ℕ) → isNumber (sizeIn (packedBytes D)) c k ≡ isNumbered D c k
   number-test c k =
       ap (λ (z : Size). isNumber z c k) (packed-size D seven)
       ∙ ap (λ (v : ℕ). ltb 0 k && leb k v) (sym (cells-in toured c) ∙ cells-agree toured c)
 
-  pub packed-first : (c : Cell) (k : ℕ) → firstOf (packedBytes D) c k ≡ bookFirst D c k
+  pub packed-first : (c : Kind) (k : ℕ) → firstOf (packedBytes D) c k ≡ bookFirst D c k
   unfolding firstOf
   packed-first c k =
       opens-opened (packedBytes D) _ (packed-opens D seven)
@@ -75,7 +78,7 @@ module _ (D : Drawing) (seven : PassesSeven D) where
       (alike-first (wordIn (packedBytes D)) (wordOf D) (packed-alike D seven) c k)
       ∙ sym (book-first toured c k)
 
-  pub packed-size-of : (c : Cell) (k : ℕ) → sizeOf (packedBytes D) c k ≡ bookSize D c k
+  pub packed-size-of : (c : Kind) (k : ℕ) → sizeOf (packedBytes D) c k ≡ bookSize D c k
   unfolding sizeOf
   packed-size-of c k =
       opens-opened (packedBytes D) _ (packed-opens D seven)
@@ -88,6 +91,6 @@ module _ (D : Drawing) (seven : PassesSeven D) where
   packed-joining u v =
       opens-opened (packedBytes D) _ (packed-opens D seven)
       ∙ ap₂ (λ (t : Bool) (x : ℕ). pick t (answer x) (refused 14))
-      (ap₂ (λ (s t : Bool). s && t) (number-test Cell.point u) (number-test Cell.point v))
+      (ap₂ (λ (s t : Bool). s && t) (number-test Kind.point u) (number-test Kind.point v))
       (alike-joining (wordIn (packedBytes D)) (wordOf D) (packed-alike D seven) (nested-word D seven) v u)
       ∙ sym (joining-word D seven u v)

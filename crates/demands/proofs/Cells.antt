@@ -3,6 +3,7 @@
 -- same-number  == two places get one number exactly if the drawing's walk leads from one to the other
 -- turn-zero-in == where a turn and a turn back answer 0, on bytes that open
 -- cell-counts  == points and areas are m + 2 in all, and the sizes of each add up to 2m
+-- known-numbers == the numbers that the book knows are those that some end has
 -- Assumes nothing.
 use mathlib.Core.Path.{_≡_, refl, sym, ap, ap₂, _∙_}
 use mathlib.Core.Logic.{_≢_, _⊎_, inl, inr, _↔_, Iff·trans}
@@ -13,30 +14,35 @@ use native.Mathlib.Omega.{arith}
 use lib.Dec.{eqb, ltb, leb}
 use borrow.Author.Tests.{eqb-true, eq-eqb, lt-ltb, le-leb}
 use Rattle.count.specs.Below.{pick, total}
+use Rattle.count.proofs.Decides.{decides-lt, decides-le, decides-both}
+use Rattle.count.proofs.Counts.{count-zero}
 use Rattle.count.proofs.Logic.{true-or-false, true-not-false, both, one-of, either-left, either-right, pick-yes, pick-no}
 use Rattle.orbits.specs.Cycles.{SameCycle}
-use Rattle.words.specs.Brackets.{Bracket, closes, opens, neither, isCloses, Balanced, mate, step, back, number, inner, isFirst, isLast, first, size}
-use Rattle.words.specs.Word.{Family, round, sameFamily, Word, seen, crossing}
+use Rattle.words.specs.Brackets.{Bracket, closes, opens, neither, isOpens, isCloses, Balanced, mate, step, back, number, inner, isFirst, isLast, first, size}
+use Rattle.words.specs.declared.family.Family.{Family}
+use Rattle.words.specs.declared.family.Family.the-variants.{Round as round}
+use Rattle.words.specs.Word.{sameFamily, Word, seen, crossing}
 use Rattle.words.proofs.Letters.{by-bracket, closes-not-neither}
 use Rattle.words.proofs.Mate.{mate-below, mate-opens, mate-neither}
-use Rattle.words.proofs.Numbers.{openings, first-inner}
+use Rattle.words.proofs.Numbers.{openings, number-positive, number-range, number-reached, first-inner}
 use Rattle.words.proofs.Sizes.{size-sum}
-use Rattle.drawing.specs.Drawing.{Drawing, Cell, borders, ends, around, cells, endAt}
+use Rattle.drawing.specs.Drawing.{Drawing, Kind, borders, ends, around, cells, endAt, positionOf}
 use Rattle.drawing.specs.Checks.{PassesSeven}
 use Rattle.drawing.specs.Session.{Answer, answer, refused, Call}
-use Rattle.drawing.specs.Book.{sizeOf, bookAnswer}
+use Rattle.drawing.specs.Book.{endsOn, hasNumber, numberAt, bookAnswer}
 use Rattle.format.specs.Bytes.{sizeIn, bitsA, wordIn}
 use Rattle.format.specs.Open.{openRefusal}
-use Rattle.format.specs.Calls.{atPlace, moveIn, mapAnswer, turnOf, turnBackOf, placesIn}
+use Rattle.format.specs.Calls.{familyOfKind, atPlace, moveIn, mapAnswer, turnOf, turnBackOf, placesIn}
 use Rattle.format.specs.Pack.{wordOf, packedBytes}
 use Rattle.agreement.specs.Toured.{Toured}
-use Rattle.agreement.proofs.Cells.{same-cell, size-agrees}
+use Rattle.agreement.proofs.Passed.{passes-toured}
+use Rattle.agreement.proofs.Cells.{same-cell, number-agrees, size-agrees}
 use Rattle.agreement.proofs.Counts.{cells-agree, openings-round, openings-square, points-count}
+use Rattle.agreement.proofs.Nesting.{word-balanced}
 use Rattle.agreement.proofs.Steps.{cellWord}
-use Rattle.agreement.proofs.Book.{book-call}
-use Rattle.unpacking.proofs.Crossing.{mate-own, by-family}
-use Rattle.demands.specs.Statements.{CellCounts, LastPlace, FirstPlace, TurnZero}
-use Rattle.demands.proofs.Passed.{passes-toured}
+use Rattle.agreement.proofs.Book.{numbers-agree, book-call}
+use Rattle.roundtrip.proofs.Crossing.{mate-own, by-family}
+use Rattle.demands.specs.Statements.{CellCounts, HasNumber, LastPlace, FirstPlace, TurnZero}
 use Rattle.demands.proofs.Answers.{opens-opened, packed-call}
 
 answer-is : (a b : ℕ) → answer a ≡ answer b → a ≡ b
@@ -50,16 +56,16 @@ at-place w c p l =
     (both (ltb 0 (suc p)) (leb (suc p) (w .size)) (lt-ltb 0 (suc p) (omega arith)) (le-leb (suc p) (w .size) l))
 
 -- the call that asks for the number of a point, of an area
-abbrev pub askOf : Cell → Call
-askOf Cell.point = Call.point
-askOf Cell.area = Call.area
+abbrev pub askOf : Kind → Call
+askOf Kind.point = Call.point
+askOf Kind.area = Call.area
 
-number-move : (D : Drawing) (c : Cell) (p : ℕ) → moveIn (wordOf D) (askOf c) p ≡ number (cellWord D c) p
+number-move : (D : Drawing) (c : Kind) (p : ℕ) → moveIn (wordOf D) (askOf c) p ≡ number (cellWord D c) p
 unfolding moveIn
-number-move D Cell.point p = refl
-number-move D Cell.area p = refl
+number-move D Kind.point p = refl
+number-move D Kind.area p = refl
 
-module _ (D : Drawing) (seven : PassesSeven D) (c : Cell) where
+module _ (D : Drawing) (seven : PassesSeven D) (c : Kind) where
   number-answer : (p : ℕ) → p < ends D → mapAnswer (packedBytes D) (askOf c) (suc p) ≡ answer (number (cellWord D c) p)
   unfolding wordOf
   number-answer p l =
@@ -77,7 +83,7 @@ module _ (D : Drawing) (seven : PassesSeven D) (c : Cell) where
         λ s. number-answer p lp ∙ ap answer (cell .1 s) ∙ sym (number-answer q lq),
       )
 
-places-are : (D : Drawing) (c : Cell) (k : ℕ) → placesIn (wordOf D) c k ≡ size (cellWord D c) (ends D) k
+places-are : (D : Drawing) (c : Kind) (k : ℕ) → placesIn (wordOf D) c k ≡ size (cellWord D c) (ends D) k
 unfolding placesIn wordOf
 places-are D c k = refl
 
@@ -183,9 +189,41 @@ total-same f g (suc v) same = ap₂ (λ (x y : ℕ). x + y) (total-same f g v sa
 pub cell-counts : {D : Drawing} → Toured D → CellCounts D
 cell-counts {D} T =
     record {
-      areas = omega (arith, cells-agree T Cell.area, openings-square T, points-count T);
+      areas = omega (arith, cells-agree T Kind.area, openings-square T, points-count T);
       sum = λ c.
-          total-same (sizeOf D c) (size (cellWord D c) (ends D)) (cells D c) (λ k. size-agrees T c k ∙ places-are D c k)
+          total-same (endsOn D c) (size (cellWord D c) (ends D)) (cells D c) (λ k. size-agrees T c k ∙ places-are D c k)
           ∙ ap (total (size (cellWord D c) (ends D))) (cells-agree T c)
           ∙ size-sum (cellWord D c) (ends D);
     }
+
+-- a number of a point (area) is the number of some end
+module _ {D : Drawing} (T : Toured D) (c : Kind) where
+  number-range-is : (k : ℕ) → (hasNumber D c k ≡ true) ↔ ((1 ≤ k) × (k ≤ 1 + openings (cellWord D c) (ends D)))
+  number-range-is k =
+      let d = decides-both (decides-lt 0 k) (decides-le k (1 + openings (cellWord D c) (ends D))) in
+      let e = numbers-agree T c k in
+      (λ h. d .sound (sym e ∙ h), λ r. e ∙ d .complete r)
+
+  pub known-numbers : HasNumber D c
+  unfolding ends
+  known-numbers =
+      let b : ℕ → Bracket = cellWord D c in
+      record {
+        ended = λ pos k. (
+          λ h.
+              let r = number-range-is k .0 h in
+              let x = number-reached b (ends D) (word-balanced T (familyOfKind c)) (omega arith) k (r .0) (r .1) in
+              (endAt D (x .0), T .meets .end-below (x .0) (x .1), number-agrees T c (x .0) (x .1) ∙ x .2),
+          λ x.
+              let p : ℕ = positionOf D (x .0) in
+              let l : p < ends D = T .meets .position-below (x .0) (x .1) in
+              let e : number b p ≡ k = sym (number-agrees T c p l) ∙ ap (numberAt D c) (T .meets .end-position (x .0) (x .1)) ∙ x .2 in
+              number-range-is k .1 (omega (arith, number-positive b p), omega (arith, number-range b (ends D) p l)),
+        );
+        alone = λ none k.
+            let z : ends D ≡ 0 = omega arith in
+            let n : openings b (ends D) ≡ 0 = ap (openings b) z ∙ count-zero (λ q. isOpens (b q)) in (
+              λ h. omega (arith, number-range-is k .0 h .0, number-range-is k .0 h .1),
+              λ e. number-range-is k .1 (omega arith, omega arith),
+            );
+      }

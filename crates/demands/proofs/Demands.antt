@@ -1,64 +1,61 @@
--- The demands of document 01, as theorems about the definitions that the contracts cite.
+-- The demands of document 01, as theorems about the definitions that the contracts cite. Each begins where a user begins: with
+-- an answer of packing, or with a byte string that opens.
 --
--- demand-2-pack        == packing writes exactly Turán's three strings, and gives 7 exactly where two unmarked borders alternate
--- demand-2-round-trip  == every byte string that opens unpacks to a drawing that packs to the same bytes, and unpacking what
---                         packing wrote gives the drawing renumbered
--- demand-3-sessions    == every session on the packed bytes is the book's
--- demand-3-numbers     == so is every answer about point and area numbers
--- every-map            == the same of every byte string that opens, with the book of its unpacked drawing
--- same-point, same-area == two places have one point (area) number exactly if they turn about one point (lie on one area walk)
--- turn-zero            == a turn (a turn back) answers 0 exactly at the last (the first) place of the point
--- areas-count          == n points, m - n + 2 areas, and the degrees and the sides each add up to 2m
+-- pack-refusals  == packing gives the number of the first of checks 1 to 7 that fails, and answers exactly if none does
+-- open-refusals  == the same of opening and checks 8 to 12
+-- demand-2       == packing writes exactly Turán's three strings, and gives 7 exactly where two unmarked borders alternate; every
+--                   byte string that opens unpacks to a drawing that packs to the same bytes, and unpacking what packing wrote
+--                   gives the drawing renumbered. Its parts are demand-2-pack and demand-2-round-trip.
+-- demand-3       == whatever packing answers agrees with the drawing's book: every session, every answer about point and area
+--                   numbers, one number for one point (area), where turns end, how many points and areas there are and which
+--                   numbers they have
+-- every-map      == the same of every byte string that opens, with the book of its unpacked drawing
+-- unpacked-agrees == the same of every byte string that opens and whatever unpacking it answers
+-- packed-agrees  == the same of the bytes of a drawing that passes 1 to 7. Its parts are demand-3-sessions, demand-3-numbers,
+--                   same-point, same-area, turn-zero, areas-count and has-number.
 -- Assumes nothing.
 use mathlib.Core.Path.{_≡_, refl, sym, ap, _∙_, subst}
-use mathlib.Core.Logic.{_≢_, _⊎_, inl, inr, _↔_}
-use mathlib.Core.Bool.{Bool, true, false, not, _&&_}
+use mathlib.Core.Bool.{Bool, true, false, _&&_}
 use mathlib.Core.List.{List}
-use Prim.Native.Nat.{ℕ, zero, suc, pred, _+_, _-_, _*_, _/_, _≤_, _<_}
+use Prim.Native.Nat.{ℕ, _-_, _*_, _≤_, _<_}
 use native.Mathlib.Omega.{arith}
-use lib.ListN.{length}
-use Rattle.count.specs.Below.{pick, total}
+use lib.ListN.{length, take, drop}
+use lib.Seq.{take-at}
+use Rattle.count.specs.Below.{pick}
 use lib.Dec.{leb}
 use borrow.Author.Tests.{le-leb}
-use Rattle.count.proofs.Logic.{true-or-false, both, pick-yes}
-use Rattle.orbits.specs.Cycles.{SameCycle}
-use Rattle.words.specs.Word.{Family, round, square, Word, seen}
-use Rattle.drawing.specs.Drawing.{Drawing, Cell, borders, ends, turn, around, cells, endAt}
-use Rattle.drawing.specs.Checks.{PassesSix, PassesSeven, Crossing}
+use Rattle.count.proofs.Logic.{both, pick-yes}
+use Rattle.drawing.specs.Drawing.{Drawing, Kind, borders, ends}
+use Rattle.drawing.specs.Checks.{PassesSeven}
+use Rattle.drawing.specs.Laid.{turningAfter, marksAfter}
 use Rattle.drawing.specs.Renumbered.{renumbered}
-use Rattle.drawing.specs.Session.{Answer, answer, refused, Call}
+use Rattle.drawing.specs.Session.{Answer, answer, refused}
 use Rattle.drawing.specs.Book.{bookAnswer, bookSession, bookNeighbours}
-use Rattle.format.specs.Bytes.{Size, EachBelow, sizeIn, longest, mapLength, mapBytes, wordIn}
-use Rattle.format.specs.Open.{openRefusal, Opens, afterRefusal}
-use Rattle.format.specs.Calls.{pointOf, areaOf, turnOf, turnBackOf, mapSession, mapAnswer, neighboursOf}
-use Rattle.format.specs.Pack.{wordOf, packedBytes, packRefusal, packOf, drawingOf, unpackOf}
+use Rattle.format.specs.Bytes.{Size, sizeIn, mapLength, wordIn}
+use Rattle.format.specs.Open.{openRefusal, Opens, openOf}
+use Rattle.format.specs.Calls.{pointOf, areaOf, mapSession, mapAnswer, neighboursOf}
+use Rattle.format.specs.Pack.{wordOf, sizeFor, packedBytes, Room, packRefusal, packOf, drawingOf, unpackOf}
 use Rattle.format.specs.Fits.{Fits}
-use Rattle.format.proofs.Decode.{opens-encode}
+use Rattle.format.proofs.Chain.{after-zero, after-answer}
+use Rattle.format.proofs.Passes.{opens-passes}
+use Rattle.format.proofs.Refusals.{pack-accepts, pack-crosses}
+pub use Rattle.format.proofs.Passes.{open-refusals}
+pub use Rattle.format.proofs.Refusals.{pack-refusals}
+use Rattle.format.proofs.Decode.{passes-nested, opens-encode}
 use Rattle.format.proofs.Encode.{fits-lengths}
 use Rattle.format.proofs.Parts.{map-length}
+use Rattle.agreement.proofs.Passed.{passes-toured, passes-fits, packed-opens, packed-map, packed-size}
 use Rattle.agreement.proofs.Book.{session-same}
-use Rattle.unpacking.proofs.Passes.{drawing-passes}
-use Rattle.unpacking.proofs.Words.{drawing-bytes}
-use Rattle.unpacking.proofs.Renumbered.{unpacked-renumbered}
-use Rattle.demands.specs.Statements.{Room, turanBytes, Exact, RoundTrip, RoundTrips, Sessions, Numbers, Agrees, SameCell, TurnZero, CellCounts}
-use Rattle.demands.proofs.Refusals.{pack-accepts, pack-crosses}
-use Rattle.demands.proofs.Passed.{sizeFor, passes-toured, passes-fits, passes-faithful, packed-opens, packed-size, packed-alike}
+use Rattle.roundtrip.proofs.Passes.{drawing-passes}
+use Rattle.roundtrip.proofs.Words.{drawing-bytes}
+use Rattle.roundtrip.proofs.Renumbered.{unpacked-renumbered}
+use Rattle.demands.specs.Statements.{turanBytes, Exact, leftIn, RoundTrip, RoundTrips, Demand2}
+use Rattle.demands.specs.Statements.{Sessions, Numbers, SameCell, TurnZero, CellCounts, HasNumber, Agrees}
+use Rattle.demands.proofs.Faithful.{passes-faithful, packed-alike}
 use Rattle.demands.proofs.Answers.{opens-opened, packed-call, packed-first, packed-size-of, packed-joining}
 use Rattle.demands.proofs.AlikeDrawings.{alike-drawing}
-use Rattle.demands.proofs.Cells.{same-number, turn-zero-in, cell-counts}
+use Rattle.demands.proofs.Cells.{same-number, turn-zero-in, cell-counts, known-numbers}
 use Rattle.demands.proofs.Turan.{turan-packed, map-length-most}
-
--- what `afterRefusal` answers
-after-zero : {A : Type 0} (k : ℕ) (a : Answer A) → k ≡ 0 → afterRefusal k a ≡ a
-after-zero k a e = ap (λ j. afterRefusal j a) e
-
-after-answer : {A : Type 0} (k : ℕ) (a b : A) → afterRefusal k (answer a) ≡ answer b → k ≡ 0
-after-answer zero a b e = refl
-after-answer (suc k) a b e = let z : _≡_ {A = ℕ} 0 1 = cc in absurd (omega arith)
-
-after-refused : {A : Type 0} (k j : ℕ) (a : A) → afterRefusal k (answer a) ≡ refused j → k ≡ j
-after-refused zero j a e = let z : _≡_ {A = ℕ} 0 1 = cc in absurd (omega arith)
-after-refused (suc k) j a e = cc
 
 packed-long : (D : Drawing) → PassesSeven D → length (packedBytes D) ≡ mapLength (sizeFor D)
 unfolding packedBytes
@@ -73,14 +70,16 @@ unfolding packOf
 demand-2-pack D work out =
     record {
       bytes = turan-packed D;
-      writes = λ room seven.
-          after-zero (packRefusal D work out) (answer (packedBytes D)) (pack-accepts D work out .1 (room, seven))
-          ∙ ap answer (sym (turan-packed D));
-      accepts = λ s e. pack-accepts D work out .0 (after-answer (packRefusal D work out) (packedBytes D) s e);
-      crosses = (
-        λ e. pack-crosses D work out .0 (after-refused (packRefusal D work out) 7 (packedBytes D) e),
-        λ c. ap (λ k. afterRefusal k (answer (packedBytes D))) (pack-crosses D work out .1 c),
+      writes = λ s. (
+        λ e.
+            let a = after-answer (packRefusal D work out) (packedBytes D) s e in
+            let p = pack-accepts D work out .0 (a .0) in
+            (p .0, p .1, sym (a .1) ∙ sym (turan-packed D)),
+        λ p.
+            after-zero (packRefusal D work out) (answer (packedBytes D)) (pack-accepts D work out .1 (p .0, p .1))
+            ∙ ap answer (sym (p .2 ∙ turan-packed D)),
       );
+      crosses = pack-crosses D work out;
       long = λ seven. packed-length D seven;
       fits = λ seven.
           let f : Fits (sizeFor D) (wordOf D) = passes-fits D seven in
@@ -89,33 +88,76 @@ demand-2-pack D work out =
           omega arith;
     }
 
+-- what packing answers is the bytes of a drawing that passes 1 to 7
+answered : (D : Drawing) (work out : ℕ) (s : List ℕ) → packOf D work out ≡ answer s → PassesSeven D × (packedBytes D ≡ s)
+answered D work out s e =
+    let p = demand-2-pack D work out .writes s .0 e in (p .1, sym (p .2 ∙ turan-packed D))
+
 -- lists that are long enough
 room-unpacks : (m t k : ℕ) (a b : Answer Drawing) → 2 * m ≤ t → m ≤ k → pick (leb (2 * m) t && leb m k) a b ≡ a
 room-unpacks m t k a b lt lk = pick-yes (leb (2 * m) t && leb m k) a b (both (leb (2 * m) t) (leb m k) (le-leb (2 * m) t lt) (le-leb m k lk))
 
--- the drawing that a byte string unpacks to passes 1 to 7, and its bytes are those
-module _ (s : List ℕ) (bytes : EachBelow 256 s) (opens : Opens s) where
+-- the drawing that a byte string unpacks to passes 1 to 7, has m borders and start 0, and its bytes are those
+module _ (s : List ℕ) (opens : Opens s) where
   abbrev unpackedOf : Drawing
   unpackedOf = drawingOf (wordIn s)
 
   unpacked-passes : PassesSeven unpackedOf
-  unpacked-passes = drawing-passes (sizeIn s .m) (sizeIn s .n) (wordIn s) (opens-encode s bytes (opens .passes) .0)
+  unpacked-passes = drawing-passes (sizeIn s .m) (sizeIn s .n) (wordIn s) (opens-encode s (opens .bytes) (opens .passes) .0)
 
   unpacked-bytes : packedBytes unpackedOf ≡ s
   unpacked-bytes =
-      let e = opens-encode s bytes (opens .passes) in
+      let e = opens-encode s (opens .bytes) (opens .passes) in
       drawing-bytes (sizeIn s .m) (sizeIn s .n) (wordIn s) (e .0) ∙ sym (e .1)
 
+  unpacked-size : borders unpackedOf ≡ sizeIn s .m
+  unpacked-size =
+      let z = packed-size unpackedOf unpacked-passes in
+      sym (ap (λ (t : List ℕ). sizeIn t .m) (sym unpacked-bytes) ∙ ap (λ (y : Size). y .m) z)
+
+  unpacked-start : unpackedOf .start ≡ 0
+  unfolding drawingOf
+  unpacked-start = refl
+
+  unpacked-packs : (work out : ℕ) → Room unpackedOf work out → packOf unpackedOf work out ≡ answer s
+  unfolding packOf
+  unpacked-packs work out room =
+      after-zero (packRefusal unpackedOf work out) (answer (packedBytes unpackedOf)) (pack-accepts unpackedOf work out .1 (room, unpacked-passes))
+      ∙ ap answer unpacked-bytes
+
+  unpacked-answer : (t k : ℕ) → 2 * sizeIn s .m ≤ t → sizeIn s .m ≤ k → unpackOf s t k ≡ answer unpackedOf
+  unfolding unpackOf
+  unpacked-answer t k lt lk =
+      opens-opened s _ (opens .passes) ∙ room-unpacks (sizeIn s .m) t k (answer unpackedOf) (refused 16) lt lk
+
+  -- lists that hold the drawing first are left with it
+  unpacked-left : (turning marks : List ℕ) → 2 * sizeIn s .m ≤ length turning → sizeIn s .m ≤ length marks → leftIn s turning marks ≡ unpackedOf
+  unfolding borders
+  unpacked-left turning marks lt lk =
+      let m : ℕ = sizeIn s .m in
+      let a = unpacked-answer (length turning) (length marks) lt lk in
+      let half = unpacked-passes .six .lengths .half in
+      let size : borders unpackedOf ≡ m = unpacked-size in
+      let t : take (2 * m) (turningAfter (unpackOf s (length turning) (length marks)) turning) ≡ unpackedOf .turning
+      = ap (λ x. take (2 * m) (turningAfter x turning)) a
+      ∙ take-at (unpackedOf .turning) (drop (length (unpackedOf .turning)) turning) (2 * m) (omega arith) in
+      let k : take m (marksAfter (unpackOf s (length turning) (length marks)) marks) ≡ unpackedOf .marks
+      = ap (λ x. take m (marksAfter x marks)) a ∙ take-at (unpackedOf .marks) (drop (length (unpackedOf .marks)) marks) m size in
+      let z : _≡_ {A = ℕ} 0 (unpackedOf .start) = sym unpacked-start in
+      λ i. record { turning = t i; marks = k i; start = z i }
+
   round-trip : RoundTrip s
-  unfolding unpackOf packOf
   round-trip =
       record {
         unpacked = unpackedOf;
-        unpacks = λ t k lt lk. opens-opened s _ (opens .passes) ∙ room-unpacks (sizeIn s .m) t k (answer unpackedOf) (refused 16) lt lk;
+        size = unpacked-size;
+        start = unpacked-start;
         passes = unpacked-passes;
-        packs = λ work out room.
-            after-zero (packRefusal unpackedOf work out) (answer (packedBytes unpackedOf)) (pack-accepts unpackedOf work out .1 (room, unpacked-passes))
-            ∙ ap answer unpacked-bytes;
+        unpacks = unpacked-answer;
+        packs = unpacked-packs;
+        lists = λ turning marks work out lt lk lw lo.
+            ap (λ D. packOf D work out) (unpacked-left turning marks lt lk)
+            ∙ unpacked-packs work out (record { working = omega (arith, unpacked-size); output = lo });
       }
 
 trip-renumbered : (D : Drawing) → PassesSeven D → (turnings marks : ℕ) → ends D ≤ turnings → borders D ≤ marks
@@ -128,44 +170,90 @@ trip-renumbered D seven t k lt lk =
     ∙ ap answer (alike-drawing (wordIn (packedBytes D)) (wordOf D) (packed-alike D seven) (passes-fits D seven .nested) ∙ unpacked-renumbered D (passes-faithful D seven))
 
 pub demand-2-round-trip : RoundTrips
-demand-2-round-trip = record { from-bytes = round-trip; from-drawing = trip-renumbered }
-
-pub demand-3-sessions : (D : Drawing) → PassesSeven D → Sessions D (packedBytes D)
-unfolding mapSession bookSession
-demand-3-sessions D seven =
-    record { same = λ i calls. session-same (mapAnswer (packedBytes D)) (bookAnswer D) (packed-call D seven) i calls }
-
-pub demand-3-numbers : (D : Drawing) → PassesSeven D → Numbers D (packedBytes D)
-unfolding neighboursOf bookNeighbours
-demand-3-numbers D seven =
+demand-2-round-trip =
     record {
-      first = packed-first D seven;
-      size = packed-size-of D seven;
-      neighbours = packed-size-of D seven Cell.area;
-      joining = packed-joining D seven;
+      from-bytes = round-trip;
+      from-drawing = λ D work out s e turnings marks lt lk.
+          let p = answered D work out s e in
+          ap (λ x. unpackOf x turnings marks) (sym (p .1)) ∙ trip-renumbered D (p .0) turnings marks lt lk;
     }
 
-pub every-map : (s : List ℕ) → EachBelow 256 s → Opens s → Agrees (drawingOf (wordIn s)) s
-every-map s bytes opens =
-    let D : Drawing = drawingOf (wordIn s) in
-    let seven : PassesSeven D = unpacked-passes s bytes opens in
-    let same : packedBytes D ≡ s = unpacked-bytes s bytes opens in
-    record {
-      sessions = rw same at (demand-3-sessions D seven);
-      numbers = rw same at (demand-3-numbers D seven);
-    }
+pub demand-2 : Demand2
+demand-2 = record { exact = demand-2-pack; trips = demand-2-round-trip }
 
-pub same-point : (D : Drawing) → PassesSeven D → SameCell D Cell.point pointOf
-unfolding pointOf
-same-point D seven = record { same = same-number D seven Cell.point }
-
-pub same-area : (D : Drawing) → PassesSeven D → SameCell D Cell.area areaOf
-unfolding areaOf
-same-area D seven = record { same = same-number D seven Cell.area }
-
-pub turn-zero : (s : List ℕ) → EachBelow 256 s → Opens s → (p : ℕ) → p < 2 * sizeIn s .m → TurnZero s p
+pub turn-zero : (s : List ℕ) → openRefusal s ≡ 0 → (p : ℕ) → p < 2 * sizeIn s .m → TurnZero s p
 unfolding wordIn
-turn-zero s bytes opens p l = turn-zero-in s (opens .passes) (opens-encode s bytes (opens .passes) .0 .nested) p l
+turn-zero s passes p l = turn-zero-in s passes (passes-nested s (opens-passes s passes)) p l
 
-pub areas-count : (D : Drawing) → PassesSeven D → CellCounts D
-areas-count D seven = cell-counts (passes-toured D seven)
+-- the bytes of a drawing that passes 1 to 7
+module _ (D : Drawing) (seven : PassesSeven D) where
+  packed-open-of : openOf (packedBytes D) ≡ answer (sizeFor D)
+  unfolding openOf
+  packed-open-of =
+      opens-opened (packedBytes D) (answer (sizeIn (packedBytes D))) (packed-opens D seven) ∙ ap answer (packed-size D seven)
+
+  pub demand-3-sessions : Sessions D (packedBytes D)
+  unfolding mapSession bookSession
+  demand-3-sessions =
+      record { same = λ i calls. session-same (mapAnswer (packedBytes D)) (bookAnswer D) (packed-call D seven) i calls }
+
+  pub demand-3-numbers : Numbers D (packedBytes D)
+  unfolding neighboursOf bookNeighbours
+  demand-3-numbers =
+      record {
+        first = packed-first D seven;
+        size = packed-size-of D seven;
+        neighbours = packed-size-of D seven Kind.area;
+        joining = packed-joining D seven;
+      }
+
+  pub same-point : SameCell D (packedBytes D) Kind.point pointOf
+  unfolding pointOf
+  same-point = record { same = same-number D seven Kind.point }
+
+  pub same-area : SameCell D (packedBytes D) Kind.area areaOf
+  unfolding areaOf
+  same-area = record { same = same-number D seven Kind.area }
+
+  packed-zero : (p : ℕ) → p < ends D → TurnZero (packedBytes D) p
+  unfolding ends
+  packed-zero p l = turn-zero (packedBytes D) (packed-opens D seven) p (omega (arith, ap (λ (z : Size). z .m) (packed-size D seven)))
+
+  pub areas-count : CellCounts D
+  areas-count = cell-counts (passes-toured D seven)
+
+  pub has-number : (c : Kind) → HasNumber D c
+  has-number = known-numbers (passes-toured D seven)
+
+  pub packed-agrees : Agrees D (packedBytes D)
+  packed-agrees =
+      record {
+        opens = packed-map D seven;
+        size = packed-open-of;
+        sessions = demand-3-sessions;
+        numbers = demand-3-numbers;
+        points = same-point;
+        areas = same-area;
+        zeros = packed-zero;
+        counts = areas-count;
+        known = has-number;
+      }
+
+pub demand-3 : (D : Drawing) (work out : ℕ) (s : List ℕ) → packOf D work out ≡ answer s → Agrees D s
+demand-3 D work out s e =
+    let p = answered D work out s e in subst (Agrees D) (p .1) (packed-agrees D (p .0))
+
+pub every-map : (s : List ℕ) → Opens s → Agrees (drawingOf (wordIn s)) s
+every-map s opens = subst (Agrees (drawingOf (wordIn s))) (unpacked-bytes s opens) (packed-agrees (drawingOf (wordIn s)) (unpacked-passes s opens))
+
+-- what unpacking answers is the drawing of the word
+unpacked-is : (room : Bool) (U D : Drawing) → pick room (answer U) (refused 16) ≡ answer D → U ≡ D
+unpacked-is true U D e = cc
+unpacked-is false U D e = let z : _≡_ {A = ℕ} 0 1 = cc in absurd (omega arith)
+
+pub unpacked-agrees : (s : List ℕ) → Opens s → (turnings marks : ℕ) (D : Drawing) → unpackOf s turnings marks ≡ answer D → Agrees D s
+unfolding unpackOf
+unpacked-agrees s opens turnings marks D e =
+    subst (λ x. Agrees x s)
+    (unpacked-is (leb (2 * sizeIn s .m) turnings && leb (sizeIn s .m) marks) (drawingOf (wordIn s)) D (sym (opens-opened s _ (opens .passes)) ∙ e))
+    (every-map s opens)

@@ -1,8 +1,8 @@
 -- The demands of document 01 as theorems.
-pub mod Refusals
+pub mod Cases
 pub mod Alike
 pub mod AlikeDrawings
-pub mod Passed
+pub mod Faithful
 pub mod Answers
 pub mod Turan
 pub mod Calls

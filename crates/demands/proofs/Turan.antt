@@ -10,9 +10,11 @@ use Prim.Native.Nat.{ℕ, _+_, _≤_}
 use native.Mathlib.Omega.{arith}
 use Rattle.count.specs.Below.{pick}
 use Rattle.count.proofs.Lists.{table-same, gather-same}
-use Rattle.words.specs.Word.{Family, round, square, sameFamily}
+use Rattle.words.specs.declared.family.Family.{Family}
+use Rattle.words.specs.declared.family.Family.the-variants.{Round as round, Square as square}
+use Rattle.words.specs.Word.{sameFamily}
 use Rattle.bits.specs.Strings.{bytesFor}
-use Rattle.drawing.specs.Drawing.{Drawing, Cell, borders, ends, cells, isSecond}
+use Rattle.drawing.specs.Drawing.{mostBorders, Drawing, Kind, borders, ends, cells, isSecond}
 use Rattle.format.specs.Bytes.{Size, le16, bytesOf, closingBit, familyBit, startB, mapLength, longest, mapBytes, stringA, stringB}
 use Rattle.format.specs.Pack.{wordOf, packedBytes}
 use Rattle.demands.specs.Statements.{markedAt, turanBytes}
@@ -35,7 +37,7 @@ unfolding turanBytes packedBytes mapBytes stringA stringB wordOf
 turan-packed D =
     let second : ℕ → ℕ = λ p. closingBit (isSecond D p) in
     let a : List ℕ → List ℕ → List ℕ → List ℕ =
-    λ x y z. le16 (borders D) ++ (le16 (cells D Cell.point) ++ (bytesOf x ++ (bytesOf y ++ bytesOf z))) in
+    λ x y z. le16 (borders D) ++ (le16 (cells D Kind.point) ++ (bytesOf x ++ (bytesOf y ++ bytesOf z))) in
     let A = table-same (λ p. closingBit (markedAt D p)) (λ p. familyBit (pick (markedAt D p) round square)) (ends D) (λ p l. family-bit (markedAt D p)) in
     let B = gather-same (markedAt D) (λ p. sameFamily round (pick (markedAt D p) round square)) second second (ends D)
     (λ p l. round-test (markedAt D p)) (λ p l. refl) in
@@ -43,6 +45,6 @@ turan-packed D =
     (λ p l. square-test (markedAt D p)) (λ p l. refl) in
     λ i. a (A i) (B i) (S i)
 
-pub map-length-most : (z : Size) → z .m ≤ 2048 → 1 ≤ z .n → z .n ≤ z .m + 1 → mapLength z ≤ longest
+pub map-length-most : (z : Size) → z .m ≤ mostBorders → 1 ≤ z .n → z .n ≤ z .m + 1 → mapLength z ≤ longest
 unfolding mapLength startB bytesFor
 map-length-most z a b c = omega arith

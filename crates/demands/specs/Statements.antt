@@ -1,44 +1,43 @@
 -- What the demands of document 01 say of the definitions: one record for each theorem of proofs/Demands.antt.
 --
--- Room D work out     == check 2 is passed: 6m entries of working list, and an output of the longest map's length
+-- markedAt D p        == whether the border at position p of the tour is marked
 -- turanBytes D        == the header and Turán's three strings for the drawing's tour, straight from the drawing
 -- Exact D work out    == demand 2: what packing gives
+-- leftIn s ts ms      == the drawing that unpacking s leaves in the lists ts and ms
 -- RoundTrip s         == demand 2: an opened byte string unpacks to a drawing that packs to the same bytes
 -- RoundTrips          == demand 2: that of every byte string that opens, and the way back
+-- Demand2             == the whole of demand 2
 -- Sessions D s        == demand 3: every session on the map s is the book's session
 -- Numbers D s         == demand 3: first places, degrees, sides, neighbour counts and joining borders on s are the book's
--- Agrees D s          == both
--- CellCounts D        == there are n points and m - n + 2 areas, and the sizes of each add up to 2m
+-- SameCell D s c ask  == two places of the map s get one number from `ask` exactly if they are of one point (area)
 -- LastPlace w p, FirstPlace w p == position p is the last, the first of its point, in document 01's words
 -- TurnZero s p        == where a turn and a turn back answer 0
--- SameCell D c ask    == two places get one number from `ask` exactly if they are of one point (area)
+-- CellCounts D        == there are n points and m - n + 2 areas, and the sizes of each add up to 2m
+-- HasNumber D c       == the numbers that the book knows are those that some end has
+-- Agrees D s          == the whole of demand 3, of the drawing D and the map s
 -- Assumes nothing.
 use mathlib.Core.Path.{_≡_}
 use mathlib.Core.Logic.{_≢_, _⊎_, _↔_}
 use mathlib.Core.Bool.{Bool, true, not}
 use mathlib.Core.List.{List, [], _++_}
 use Prim.Native.Nat.{ℕ, suc, pred, _+_, _*_, _≤_, _<_}
-use lib.ListN.{length}
+use lib.ListN.{length, take}
 use Rattle.count.specs.Below.{table, gather, total}
 use Rattle.orbits.specs.Cycles.{SameCycle}
 use Rattle.words.specs.Brackets.{closes, first, number}
-use Rattle.words.specs.Word.{Word, round, seen, crossing}
-use Rattle.drawing.specs.Drawing.{Drawing, Cell, borders, ends, border, isMarked, around, cells, endAt, isSecond}
+use Rattle.words.specs.declared.family.Family.the-variants.{Round as round}
+use Rattle.words.specs.Word.{Word, seen, crossing}
+use Rattle.drawing.specs.Drawing.{Drawing, Kind, borders, ends, border, isMarked, around, cells, endAt, isSecond}
 use Rattle.drawing.specs.Renumbered.{renumbered}
+use Rattle.drawing.specs.Laid.{lent, turningAfter, marksAfter}
 use Rattle.drawing.specs.Checks.{PassesSix, PassesSeven, Crossing}
 use Rattle.drawing.specs.Session.{Answer, answer, refused, Call}
-use Rattle.drawing.specs.Book.{bookSession, bookFirst, bookSize, bookNeighbours, bookJoining, sizeOf}
-use Rattle.format.specs.Bytes.{Size, EachBelow, sizeIn, wordIn, le16, bytesOf, closingBit, longest, mapLength}
-use Rattle.format.specs.Open.{Opens}
-use Rattle.format.specs.Calls.{mapSession, turnOf, turnBackOf, firstOf, neighboursOf, joiningOf}
-use Rattle.format.specs.Calls as Calls
-use Rattle.format.specs.Pack.{packedBytes, packOf, unpackOf}
+use Rattle.drawing.specs.Book.{bookSession, bookFirst, bookSize, bookNeighbours, bookJoining, numberAt, hasNumber, endsOn}
+use Rattle.format.specs.Bytes.{Size, sizeIn, wordIn, le16, bytesOf, closingBit, longest, mapLength}
+use Rattle.format.specs.Open.{Opens, openOf}
+use Rattle.format.specs.Calls.{mapSession, turnOf, turnBackOf, pointOf, areaOf, firstOf, sizeOf, neighboursOf, joiningOf}
+use Rattle.format.specs.Pack.{Room, sizeFor, packedBytes, packOf, unpackOf}
 
-pub record Room (D : Drawing) (work out : ℕ) : Type 0 where
-  pub working : 6 * borders D ≤ work
-  pub output : longest ≤ out
-
--- whether the border at position p of the tour is marked
 abbrev pub markedAt : Drawing → ℕ → Bool
 markedAt D p = isMarked D (border (endAt D p))
 
@@ -49,7 +48,7 @@ unfoldable pub turanBytes : Drawing → List ℕ
 unfolding table gather isMarked border endAt isSecond ends borders cells bytesOf
 turanBytes D =
     le16 (borders D)
-    ++ (le16 (cells D Cell.point)
+    ++ (le16 (cells D Kind.point)
     ++ (bytesOf (table (λ p. closingBit (markedAt D p)) (ends D))
     ++ (bytesOf (gather (markedAt D) (λ p. closingBit (isSecond D p)) (ends D))
     ++ bytesOf (gather (λ p. not (markedAt D p)) (λ p. closingBit (isSecond D p)) (ends D)))))
@@ -58,24 +57,40 @@ turanBytes D =
 -- unmarked borders alternate in it, the earlier checks being passed."
 pub record Exact (D : Drawing) (work out : ℕ) : Type 0 where
   pub bytes : turanBytes D ≡ packedBytes D
-  pub writes : Room D work out → PassesSeven D → packOf D work out ≡ answer (turanBytes D)
-  pub accepts : (s : List ℕ) → packOf D work out ≡ answer s → Room D work out × PassesSeven D
+  pub writes : (s : List ℕ) → (packOf D work out ≡ answer s) ↔ (Room D work out × PassesSeven D × (s ≡ turanBytes D))
   pub crosses : (packOf D work out ≡ refused 7) ↔ (Room D work out × PassesSix D × ((a : ℕ) × (b : ℕ) × Crossing D a b))
-  pub long : PassesSeven D → length (turanBytes D) ≡ mapLength (record { m = borders D; n = cells D Cell.point })
+  pub long : PassesSeven D → length (turanBytes D) ≡ mapLength (sizeFor D)
   pub fits : PassesSeven D → length (turanBytes D) ≤ longest
 
--- Demand 2: "Every byte string accepted on opening unpacks to a drawing that packs to the same bytes."
+-- the drawing, with start 0, that stands in the first 2m entries and the first m marks of lists after the map s was unpacked
+-- into them
+abbrev pub leftIn : List ℕ → List ℕ → List ℕ → Drawing
+leftIn s turning marks =
+    let a : Answer Drawing = unpackOf s (length turning) (length marks) in
+    lent (take (2 * sizeIn s .m) (turningAfter a turning)) (take (sizeIn s .m) (marksAfter a marks)) 0
+
+-- Demand 2: "Every byte string accepted on opening unpacks to a drawing that packs to the same bytes." First of the drawing,
+-- then of any lists that are long enough, whatever they held before.
 pub record RoundTrip (s : List ℕ) : Type 0 where
   pub unpacked : Drawing
-  pub unpacks : (turnings marks : ℕ) → 2 * sizeIn s .m ≤ turnings → sizeIn s .m ≤ marks → unpackOf s turnings marks ≡ answer unpacked
+  pub size : borders unpacked ≡ sizeIn s .m
+  pub start : unpacked .start ≡ 0
   pub passes : PassesSeven unpacked
+  pub unpacks : (turnings marks : ℕ) → 2 * sizeIn s .m ≤ turnings → sizeIn s .m ≤ marks → unpackOf s turnings marks ≡ answer unpacked
   pub packs : (work out : ℕ) → Room unpacked work out → packOf unpacked work out ≡ answer s
+  pub lists : (turning marks : List ℕ) (work out : ℕ) → 2 * sizeIn s .m ≤ length turning → sizeIn s .m ≤ length marks
+      → 6 * sizeIn s .m ≤ work → longest ≤ out → packOf (leftIn s turning marks) work out ≡ answer s
 
 -- 01: "Packing a drawing and unpacking gives that drawing so renumbered."
 pub record RoundTrips : Type 0 where
-  pub from-bytes : (s : List ℕ) → EachBelow 256 s → Opens s → RoundTrip s
-  pub from-drawing : (D : Drawing) → PassesSeven D → (turnings marks : ℕ) → ends D ≤ turnings → borders D ≤ marks
-      → unpackOf (packedBytes D) turnings marks ≡ answer (renumbered D)
+  pub from-bytes : (s : List ℕ) → Opens s → RoundTrip s
+  pub from-drawing : (D : Drawing) (work out : ℕ) (s : List ℕ) → packOf D work out ≡ answer s
+      → (turnings marks : ℕ) → ends D ≤ turnings → borders D ≤ marks → unpackOf s turnings marks ≡ answer (renumbered D)
+
+-- Demand 2, both sentences: of every drawing with every length of the lists lent, and of every byte string.
+pub record Demand2 : Type 0 where
+  pub exact : (D : Drawing) (work out : ℕ) → Exact D work out
+  pub trips : RoundTrips
 
 -- Demand 3: "every first number and every list of calls"
 pub record Sessions (D : Drawing) (s : List ℕ) : Type 0 where
@@ -84,20 +99,16 @@ pub record Sessions (D : Drawing) (s : List ℕ) : Type 0 where
 -- Demand 3: "for every point and area number, first places, degrees, sides, neighbour counts and joining borders are the
 -- book's too"
 pub record Numbers (D : Drawing) (s : List ℕ) : Type 0 where
-  pub first : (c : Cell) (k : ℕ) → firstOf s c k ≡ bookFirst D c k
-  pub size : (c : Cell) (k : ℕ) → Calls.sizeOf s c k ≡ bookSize D c k
+  pub first : (c : Kind) (k : ℕ) → firstOf s c k ≡ bookFirst D c k
+  pub size : (c : Kind) (k : ℕ) → sizeOf s c k ≡ bookSize D c k
   pub neighbours : (k : ℕ) → neighboursOf s k ≡ bookNeighbours D k
   pub joining : (u v : ℕ) → joiningOf s u v ≡ bookJoining D u v
 
--- 01: "There are m-n+2 areas"; 02, 1/14: "That the sum is 2m"
-pub record CellCounts (D : Drawing) : Type 0 where
-  pub areas : cells D Cell.area + cells D Cell.point ≡ borders D + 2
-  pub sum : (c : Cell) → total (sizeOf D c) (cells D c) ≡ ends D
-
--- the whole of demand 3
-pub record Agrees (D : Drawing) (s : List ℕ) : Type 0 where
-  pub sessions : Sessions D s
-  pub numbers : Numbers D s
+-- 01: "A point is one cycle of that list"; "Ends on one such cycle border one area." Two places get one number exactly if
+-- their ends turn about one point, lie on one area walk.
+pub record SameCell (D : Drawing) (s : List ℕ) (c : Kind) (ask : List ℕ → ℕ → Answer ℕ) : Type 0 where
+  pub same : (p q : ℕ) → p < ends D → q < ends D
+      → (ask s (suc p) ≡ ask s (suc q)) ↔ SameCycle (around D c) (endAt D p) (endAt D q)
 
 -- 01, Moves: "the ) that leaves it; for point 1 it is place 2m or, if that is a ), the ( it closes"
 abbrev pub LastPlace : Word → ℕ → Type 0
@@ -115,7 +126,27 @@ pub record TurnZero (s : List ℕ) (p : ℕ) : Type 0 where
   pub turn : (turnOf s (suc p) ≡ answer 0) ↔ LastPlace (wordIn s) p
   pub turn-back : (turnBackOf s (suc p) ≡ answer 0) ↔ FirstPlace (wordIn s) p
 
--- two places have one point number exactly if they turn about one point, one area number exactly if one area walk passes both
-pub record SameCell (D : Drawing) (c : Cell) (ask : List ℕ → ℕ → Answer ℕ) : Type 0 where
-  pub same : (p q : ℕ) → p < ends D → q < ends D
-      → (ask (packedBytes D) (suc p) ≡ ask (packedBytes D) (suc q)) ↔ SameCycle (around D c) (endAt D p) (endAt D q)
+-- 01: "There are m-n+2 areas"; 02, 1/14: "That the sum is 2m"
+pub record CellCounts (D : Drawing) : Type 0 where
+  pub areas : cells D Kind.area + cells D Kind.point ≡ borders D + 2
+  pub sum : (c : Kind) → total (endsOn D c) (cells D c) ≡ ends D
+
+-- 01: "A point number that no point has gets 14, an area number that no area has 15." A point, an area has a number if one of
+-- its ends has. "With m = 0 there is one point", and one area, without ends: its number is 1.
+pub record HasNumber (D : Drawing) (c : Kind) : Type 0 where
+  pub ended : 0 < borders D → (k : ℕ) → (hasNumber D c k ≡ true) ↔ ((h : ℕ) × (h < ends D) × (numberAt D c h ≡ k))
+  pub alone : borders D ≡ 0 → (k : ℕ) → (hasNumber D c k ≡ true) ↔ (k ≡ 1)
+
+-- Demand 3, whole. 01: "Demand 3 is one statement about the whole list"; it "covers counts and searches". The map s is a
+-- byte string that opens, with the drawing's m and n. Beside the answers stands what document 01 says of the numbers and of the
+-- zeros among them.
+pub record Agrees (D : Drawing) (s : List ℕ) : Type 0 where
+  pub opens : Opens s
+  pub size : openOf s ≡ answer (sizeFor D)
+  pub sessions : Sessions D s
+  pub numbers : Numbers D s
+  pub points : SameCell D s Kind.point pointOf
+  pub areas : SameCell D s Kind.area areaOf
+  pub zeros : (p : ℕ) → p < ends D → TurnZero s p
+  pub counts : CellCounts D
+  pub known : (c : Kind) → HasNumber D c

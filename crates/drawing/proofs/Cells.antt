@@ -11,19 +11,19 @@ use lib.Dec.{eqb}
 use borrow.Author.Tests.{eq-eqb, ne-eqb}
 use Rattle.count.proofs.Logic.{pick-yes, pick-no}
 use Rattle.orbits.specs.Cycles.{cycles}
-use Rattle.drawing.specs.Drawing.{Drawing, Cell, borders, ends, turn, over, walk, around, cells}
+use Rattle.drawing.specs.Drawing.{Drawing, Kind, borders, ends, turn, over, walk, around, cells}
 
-pub cells-none : (D : Drawing) (c : Cell) → borders D ≡ 0 → cells D c ≡ 1
+pub cells-none : (D : Drawing) (c : Kind) → borders D ≡ 0 → cells D c ≡ 1
 unfolding cells
 cells-none D c z =
     pick-yes (eqb (borders D) 0) 1 (cycles (ends D) (around D c)) (eq-eqb (borders D) 0 z)
 
-pub cells-are : (D : Drawing) (c : Cell) → 0 < borders D → cells D c ≡ cycles (ends D) (around D c)
+pub cells-are : (D : Drawing) (c : Kind) → 0 < borders D → cells D c ≡ cycles (ends D) (around D c)
 unfolding cells
 cells-are D c pos =
     pick-no (eqb (borders D) 0) 1 (cycles (ends D) (around D c)) (ne-eqb (borders D) 0 (omega arith))
 
 -- about a point nothing is crossed
-pub points-are : (D : Drawing) → 0 < borders D → cells D Cell.point ≡ cycles (ends D) (turn D)
+pub points-are : (D : Drawing) → 0 < borders D → cells D Kind.point ≡ cycles (ends D) (turn D)
 unfolding around walk over
-points-are D pos = cells-are D Cell.point pos
+points-are D pos = cells-are D Kind.point pos

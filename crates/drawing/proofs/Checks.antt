@@ -9,14 +9,14 @@ use lib.ListN.{length, getD}
 use lib.Dec.{eqb, ltb, leb}
 use Rattle.count.specs.Below.{Decides, all}
 use Rattle.count.proofs.Decides.{decides-eq, decides-le, decides-lt, decides-not, decides-both, decides-all, decides-as}
-use Rattle.drawing.specs.Drawing.{Drawing, Cell, borders, ends, turn, cells}
+use Rattle.drawing.specs.Drawing.{mostEnds, Drawing, Kind, borders, ends, turn, cells}
 use Rattle.drawing.specs.Checks.{LengthsFit, lengthsFit, InRange, inRange, Distinct, distinct, FewMarks, fewMarks, markCount}
 
 pub lengths-decides : (D : Drawing) → Decides (lengthsFit D) (LengthsFit D)
 unfolding lengthsFit
 lengths-decides D =
     decides-as (λ t. record { half = t .0; most = t .1 }) (λ r. (r .half, r .most))
-    (decides-both (decides-eq (length (D .turning)) (2 * length (D .marks))) (decides-le (length (D .turning)) 4096))
+    (decides-both (decides-eq (length (D .turning)) (2 * length (D .marks))) (decides-le (length (D .turning)) mostEnds))
 
 pub range-decides : (D : Drawing) → Decides (inRange D) (InRange D)
 unfolding inRange
@@ -45,4 +45,4 @@ distinct-decides D =
 pub few-decides : (D : Drawing) → Decides (fewMarks D) (FewMarks D)
 unfolding fewMarks
 few-decides D =
-    decides-as (λ l. record { fewer = l }) (λ r. r .fewer) (decides-lt (markCount D) (cells D Cell.point))
+    decides-as (λ l. record { fewer = l }) (λ r. r .fewer) (decides-lt (markCount D) (cells D Kind.point))

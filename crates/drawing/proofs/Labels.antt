@@ -30,7 +30,7 @@ use Rattle.count.proofs.Decides.{decides-eq, decides-all, decides-as}
 use Rattle.orbits.specs.Cycles.{Permutes, SameCycle, low}
 use Rattle.orbits.proofs.Same.{same-cycle-induct}
 use Rattle.orbits.proofs.Low.{low-same-cycle, low-step}
-use Rattle.drawing.specs.Drawing.{Drawing, Cell, borders, ends, border, other, turn, isMarked, around, walk, over, cellOf}
+use Rattle.drawing.specs.Drawing.{Drawing, Kind, borders, ends, border, other, turn, isMarked, around, walk, over, cellOf}
 use Rattle.drawing.specs.Checks.{Linked, here, turned, crossing, Joined, labels, relabel, mergeAt, allSame, joined}
 use Rattle.drawing.proofs.Ends.{other-even, other-odd, other-border, other-below, border-below}
 
@@ -43,7 +43,7 @@ merge-length false e ls = refl
 
 labels-length : (D : Drawing) (e : ℕ) → length (labels D e) ≡ ends D
 unfolding labels
-labels-length D zero = table-length (cellOf D Cell.point) (ends D)
+labels-length D zero = table-length (cellOf D Kind.point) (ends D)
 labels-length D (suc e) = merge-length (isMarked D e) e (labels D e) ∙ labels-length D e
 
 -- an entry of a list in which a became b
@@ -54,7 +54,7 @@ relabel-at a b (x ∷ ls) (suc i) l = relabel-at a b ls i (omega arith)
 
 pub label-start : (D : Drawing) (h : ℕ) → h < ends D → label D 0 h ≡ low (ends D) (turn D) h
 unfolding label labels cellOf around walk over
-label-start D h b = table-getD (cellOf D Cell.point) (ends D) h 0 b
+label-start D h b = table-getD (cellOf D Kind.point) (ends D) h 0 b
 
 pub label-unmarked : (D : Drawing) (e h : ℕ) → isMarked D e ≡ false → label D (e + 1) h ≡ label D e h
 unfolding label labels

@@ -7,6 +7,10 @@
 -- entryTo D h        == the end whose entry is h
 -- bookAnswer D c i   == the book's answer to the call c at place i
 -- bookSession D i cs == a session on the book
+-- noSuch c           == the refusal of a number that no point (area) has: 14 or 15
+-- hasNumber D c k    == whether k is one of the numbers 1 to the number of points (areas)
+-- firstPosition D c k == the lowest position on the point (area) k
+-- endsOn D c k       == how many ends are on the point (area) k
 -- bookFirst, bookSize, bookNeighbours, bookJoining == the book on point and area numbers
 -- Assumes nothing.
 use mathlib.Core.Bool.{Bool, true, false, _&&_}
@@ -14,7 +18,7 @@ use mathlib.Core.List.{List}
 use Prim.Native.Nat.{ℕ, zero, suc, pred}
 use lib.Dec.{eqb, ltb, leb}
 use Rattle.count.specs.Below.{pick, find, count}
-use Rattle.drawing.specs.Drawing.{Drawing, Cell, borders, ends, other, turn, around, cellOf, cells, endAt, positionOf}
+use Rattle.drawing.specs.Drawing.{Drawing, Kind, borders, ends, other, turn, around, cellOf, cells, endAt, positionOf}
 use Rattle.drawing.specs.Session.{Answer, answer, refused, Call, Outcome, session}
 
 -- 01: "its tour, which gives each end its place"
@@ -22,17 +26,17 @@ unfoldable pub placeOf : Drawing → ℕ → ℕ
 unfolding positionOf
 placeOf D h = suc (positionOf D h)
 
-unfoldable pub lowPosition : Drawing → Cell → ℕ → ℕ
+unfoldable pub lowPosition : Drawing → Kind → ℕ → ℕ
 unfolding find cellOf endAt ends
 lowPosition D c h = find (λ p. eqb (cellOf D c (endAt D p)) (cellOf D c h)) (ends D)
 
-unfoldable pub isLowest : Drawing → Cell → ℕ → Bool
+unfoldable pub isLowest : Drawing → Kind → ℕ → Bool
 unfolding lowPosition positionOf
 isLowest D c h = eqb (positionOf D h) (lowPosition D c h)
 
 -- 01: "the points are numbered from 1 by their lowest places, lowest first, and the answer is the number of the one h is
 -- on. Area: the same with area walks."
-unfoldable pub numberAt : Drawing → Cell → ℕ → ℕ
+unfoldable pub numberAt : Drawing → Kind → ℕ → ℕ
 unfolding count lowPosition endAt
 numberAt D c h = suc (count (λ p. eqb (lowPosition D c (endAt D p)) p) (lowPosition D c h))
 
@@ -46,11 +50,11 @@ entryTo D h = find (λ g. eqb (turn D g) h) (ends D)
 unfoldable pub answerAt : Drawing → Call → ℕ → ℕ
 unfolding placeOf other turn isLowest entryTo around numberAt
 answerAt D Call.cross h = placeOf D (other h)
-answerAt D Call.turn h = pick (isLowest D Cell.point (turn D h)) 0 (placeOf D (turn D h))
-answerAt D Call.turn-back h = pick (isLowest D Cell.point h) 0 (placeOf D (entryTo D h))
-answerAt D Call.along h = placeOf D (around D Cell.area h)
-answerAt D Call.point h = numberAt D Cell.point h
-answerAt D Call.area h = numberAt D Cell.area h
+answerAt D Call.turn h = pick (isLowest D Kind.point (turn D h)) 0 (placeOf D (turn D h))
+answerAt D Call.turn-back h = pick (isLowest D Kind.point h) 0 (placeOf D (entryTo D h))
+answerAt D Call.along h = placeOf D (around D Kind.area h)
+answerAt D Call.point h = numberAt D Kind.point h
+answerAt D Call.area h = numberAt D Kind.area h
 
 -- 01: "If the place is not 1 to 2m, every call gets 13 and the place stays. Otherwise h is the end at that place."
 unfoldable pub bookAnswer : Drawing → Call → ℕ → Answer ℕ
@@ -62,50 +66,50 @@ unfolding session bookAnswer
 bookSession D i cs = session (bookAnswer D) i cs
 
 -- 01: "A point number that no point has gets 14, an area number that no area has 15."
-abbrev pub noSuch : Cell → ℕ
-noSuch Cell.point = 14
-noSuch Cell.area = 15
+abbrev pub noSuch : Kind → ℕ
+noSuch Kind.point = 14
+noSuch Kind.area = 15
 
-unfoldable pub hasNumber : Drawing → Cell → ℕ → Bool
+unfoldable pub hasNumber : Drawing → Kind → ℕ → Bool
 unfolding cells
 hasNumber D c k = ltb 0 k && leb k (cells D c)
 
 -- the lowest position on the point (area) k; 2m where there is none
-unfoldable pub firstPosition : Drawing → Cell → ℕ → ℕ
+unfoldable pub firstPosition : Drawing → Kind → ℕ → ℕ
 unfolding find numberAt endAt ends
 firstPosition D c k = find (λ p. eqb (numberAt D c (endAt D p)) k) (ends D)
 
 -- 01: "First place is the lowest on that point or area walk"; under Moves: "Both are 0 if m = 0."
-unfoldable pub bookFirst : Drawing → Cell → ℕ → Answer ℕ
+unfoldable pub bookFirst : Drawing → Kind → ℕ → Answer ℕ
 unfolding hasNumber borders firstPosition
 bookFirst D c k =
     pick (hasNumber D c k) (answer (pick (eqb (borders D) 0) 0 (suc (firstPosition D c k)))) (refused (noSuch c))
 
 -- 01: "degree and sides count its ends"
-unfoldable pub sizeOf : Drawing → Cell → ℕ → ℕ
+unfoldable pub endsOn : Drawing → Kind → ℕ → ℕ
 unfolding count numberAt ends
-sizeOf D c k = count (λ h. eqb (numberAt D c h) k) (ends D)
+endsOn D c k = count (λ h. eqb (numberAt D c h) k) (ends D)
 
-unfoldable pub bookSize : Drawing → Cell → ℕ → Answer ℕ
-unfolding hasNumber sizeOf
-bookSize D c k = pick (hasNumber D c k) (answer (sizeOf D c k)) (refused (noSuch c))
+unfoldable pub bookSize : Drawing → Kind → ℕ → Answer ℕ
+unfolding hasNumber endsOn
+bookSize D c k = pick (hasNumber D c k) (answer (endsOn D c k)) (refused (noSuch c))
 
 -- 01, Moves: "An area's neighbour count is its number of sides."
 unfoldable pub bookNeighbours : Drawing → ℕ → Answer ℕ
 unfolding bookSize
-bookNeighbours D k = bookSize D Cell.area k
+bookNeighbours D k = bookSize D Kind.area k
 
 -- the place of the first of k ends from h on, in turning order, whose other end is on point v; 0 where none is
 unfoldable pub joinFrom : Drawing → ℕ → ℕ → ℕ → ℕ
 unfolding numberAt other placeOf turn
 joinFrom D v zero h = 0
-joinFrom D v (suc k) h = elim (eqb (numberAt D Cell.point (other h)) v) [ true ↦ placeOf D h | false ↦ joinFrom D v k (turn D h) ]
+joinFrom D v (suc k) h = elim (eqb (numberAt D Kind.point (other h)) v) [ true ↦ placeOf D h | false ↦ joinFrom D v k (turn D h) ]
 
 -- 01, Moves: "the search stops at the first place about u, in turning order, whose crossing lands at v, and answers that
 -- place. It answers 0 if none does." The book: "once round from the first place of u".
 unfoldable pub bookJoining : Drawing → ℕ → ℕ → Answer ℕ
-unfolding hasNumber joinFrom sizeOf endAt firstPosition
+unfolding hasNumber joinFrom endsOn endAt firstPosition
 bookJoining D u v =
-    pick (hasNumber D Cell.point u && hasNumber D Cell.point v)
-    (answer (joinFrom D v (sizeOf D Cell.point u) (endAt D (firstPosition D Cell.point u))))
+    pick (hasNumber D Kind.point u && hasNumber D Kind.point v)
+    (answer (joinFrom D v (endsOn D Kind.point u) (endAt D (firstPosition D Kind.point u))))
     (refused 14)

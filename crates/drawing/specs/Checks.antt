@@ -4,9 +4,14 @@
 -- LengthsFit, lengthsFit == passes 1: the turning list is twice as long as the marks, and at most 4,096
 -- InRange, inRange       == passes 3: entries and start are below 2m, marks are 0 or 1
 -- Distinct, distinct     == passes 4: no two entries are equal
+-- Linked D g h           == from end g one comes to end h by turning and by crossing marked borders
 -- Joined, joined         == passes 5: the marked borders join all points
+-- markCount D            == how many borders are marked
 -- FewMarks, fewMarks     == passes 6: at most n - 1 borders are marked
+-- Alternate D a b        == borders a and b come as a, b, a, b in the tour
 -- Crossing, crosses      == fails 7: two unmarked borders alternate in the tour
+-- Flat                   == passes 7: no two do
+-- CrossingPair D a b     == the pair that 7 carries
 -- PassesSix, PassesSeven == passes 1 to 6, 1 to 7
 -- Assumes nothing.
 use mathlib.Core.Path.{_≡_}
@@ -17,15 +22,15 @@ use Prim.Native.Nat.{ℕ, zero, suc, _*_, _<_, _≤_, max}
 use lib.ListN.{length, getD}
 use lib.Dec.{eqb, ltb, leb}
 use Rattle.count.specs.Below.{pick, count, all, any, table}
-use Rattle.drawing.specs.Drawing.{Drawing, Cell, borders, ends, border, other, turn, isMarked, cellOf, cells, endAt}
+use Rattle.drawing.specs.Drawing.{mostEnds, Drawing, Kind, borders, ends, border, other, turn, isMarked, cellOf, cells, endAt}
 
 -- 1: "turning list odd in length or over 4,096, or marks not half as long"
 pub record LengthsFit (D : Drawing) : Type 0 where
   pub half : length (D .turning) ≡ 2 * length (D .marks)
-  pub most : length (D .turning) ≤ 4096
+  pub most : length (D .turning) ≤ mostEnds
 
 unfoldable pub lengthsFit : Drawing → Bool
-lengthsFit D = eqb (length (D .turning)) (2 * length (D .marks)) && leb (length (D .turning)) 4096
+lengthsFit D = eqb (length (D .turning)) (2 * length (D .marks)) && leb (length (D .turning)) mostEnds
 
 -- 3: "entry or start not below 2m (m = 0: start not 0), or mark over 1"
 pub record InRange (D : Drawing) : Type 0 where
@@ -68,7 +73,7 @@ mergeAt false e ls = ls
 -- the labels after the first e borders
 unfoldable pub labels : Drawing → ℕ → List ℕ
 unfolding table cellOf ends isMarked
-labels D zero = table (cellOf D Cell.point) (ends D)
+labels D zero = table (cellOf D Kind.point) (ends D)
 labels D (suc e) = mergeAt (isMarked D e) e (labels D e)
 
 abbrev pub allSame : List ℕ → Bool
@@ -85,11 +90,11 @@ unfolding count isMarked borders
 markCount D = count (isMarked D) (borders D)
 
 pub record FewMarks (D : Drawing) : Type 0 where
-  pub fewer : markCount D < cells D Cell.point
+  pub fewer : markCount D < cells D Kind.point
 
 unfoldable pub fewMarks : Drawing → Bool
 unfolding markCount cells
-fewMarks D = ltb (markCount D) (cells D Cell.point)
+fewMarks D = ltb (markCount D) (cells D Kind.point)
 
 -- 7: "two unmarked borders alternate: a, b, a, b in the tour"
 pub record Alternate (D : Drawing) (a b : ℕ) : Type 0 where
@@ -113,6 +118,9 @@ pub record Crossing (D : Drawing) (a b : ℕ) : Type 0 where
   pub first-unmarked : isMarked D a ≡ false
   pub second-unmarked : isMarked D b ≡ false
   pub alternate : Alternate D a b
+
+abbrev pub Flat : Drawing → Type 0
+Flat D = (a b : ℕ) → Crossing D a b → ⊥
 
 -- The test looks for a, b, a, b in order among the borders of the tour: what is left to be found after the borders ys.
 abbrev pub found : ℕ → List ℕ → List ℕ
@@ -155,4 +163,4 @@ pub record PassesSix (D : Drawing) : Type 0 where
 
 pub record PassesSeven (D : Drawing) : Type 0 where
   pub six : PassesSix D
-  pub flat : (a b : ℕ) → Crossing D a b → ⊥
+  pub flat : Flat D

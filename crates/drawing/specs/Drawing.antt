@@ -1,5 +1,6 @@
 -- The drawing and its tour (document 01, "The drawing" and "Tour and packed map").
 --
+-- mostBorders, mostEnds == m at most, 2m at most
 -- Drawing          == turning list (rotation system), marks, start
 -- borders D        == m, the number of borders (edges)
 -- ends D           == 2m, the number of ends (half-edges, darts)
@@ -9,7 +10,7 @@
 -- isMarked D e     == whether border e is of the spanning tree
 -- over S h         == h's other end if its border is in the set S, else h itself
 -- walk D S h       == the turning-list entry of `over S h`: cross if the border is in S, then turn
--- Cell             == a point (vertex) or an area (face)
+-- Kind             == what a cell is: a point (vertex) or an area (face)
 -- around D c h     == the next end about h's point, or on h's area walk
 -- cellOf D c h     == the point (area) of end h, named by its least end
 -- cells D c        == the number of points (n), of areas
@@ -24,6 +25,13 @@ use lib.ListN.{length, getD}
 use lib.Dec.{eqb}
 use Rattle.count.specs.Below.{pick, any, find}
 use Rattle.orbits.specs.Cycles.{iter, low, cycles}
+
+-- 01: "m at most 2,048"; check 1: a "turning list .. over 4,096" is refused
+abbrev pub mostBorders : ℕ
+mostBorders = 2048
+
+abbrev pub mostEnds : ℕ
+mostEnds = 2 * mostBorders
 
 -- 01: "entry h is the end that follows end h counterclockwise about its point"; "one byte per border"; "an end number"
 pub record Drawing : Type 0 where
@@ -61,25 +69,25 @@ unfoldable pub walk : Drawing → (ℕ → Bool) → ℕ → ℕ
 unfolding turn over
 walk D S h = turn D (over S h)
 
-pub data Cell : Type 0 where
-  point area : Cell
+pub data Kind : Type 0 where
+  point area : Kind
 
 -- 01: "A point is one cycle of that list." About a point no border is crossed. "An area walk repeats: from end h go to
 -- the turning-list entry of h's other end." Along an area every border is crossed.
-abbrev pub crossed : Cell → ℕ → Bool
+abbrev pub crossed : Kind → ℕ → Bool
 crossed point e = false
 crossed area e = true
 
-unfoldable pub around : Drawing → Cell → ℕ → ℕ
+unfoldable pub around : Drawing → Kind → ℕ → ℕ
 unfolding walk
 around D c h = walk D (crossed c) h
 
-unfoldable pub cellOf : Drawing → Cell → ℕ → ℕ
+unfoldable pub cellOf : Drawing → Kind → ℕ → ℕ
 unfolding low ends around
 cellOf D c h = low (ends D) (around D c) h
 
 -- 01: "n is the number of points. With m = 0 there is one point." One area too.
-unfoldable pub cells : Drawing → Cell → ℕ
+unfoldable pub cells : Drawing → Kind → ℕ
 unfolding borders cycles ends around
 cells D c = pick (eqb (borders D) 0) 1 (cycles (ends D) (around D c))
 

@@ -1,6 +1,7 @@
--- A drawing in lent lists: what a call that gives a drawing answers, and what the lists hold after it (document 01, "Numbers
+-- A drawing in lent lists: the drawing that they hold, what a call that gives a drawing answers, and what the lists hold after it (document 01, "Numbers
 -- returned when a call declines").
 --
+-- lent ts ms s         == the drawing with turning list ts, marks ms and start s
 -- bordersOf a          == m of the drawing given, or the refusal
 -- laid new old         == new in place of the first entries of old
 -- turningAfter a old   == the turning list after a was given into old; old where the call declines
@@ -11,6 +12,9 @@ use Prim.Native.Nat.{ℕ}
 use lib.ListN.{length, drop}
 use Rattle.drawing.specs.Drawing.{Drawing, borders}
 use Rattle.drawing.specs.Session.{Answer, answer, refused}
+
+abbrev pub lent : List ℕ → List ℕ → ℕ → Drawing
+lent ts ms s = record { turning = ts; marks = ms; start = s }
 
 -- 01: "Opening gives m and n, unpacking gives m"
 abbrev pub bordersOf : Answer Drawing → Answer ℕ

@@ -2,6 +2,7 @@
 --
 -- Answer A         == what a call gives: an answer, or the number of the refusal
 -- numberOf a       == document 01's number for it: 0 for an answer
+-- valueOf a        == the number in an answer; 0 where the call is refused
 -- Call             == the six calls of a session
 -- isMove c         == whether the answer of c is the new place: cross, turn, turn back and along
 -- placeAfter c a p == the place after the call c was answered by a at place p
@@ -21,6 +22,10 @@ pub data Answer (A : Type 0) : Type 0 where
 unfoldable pub numberOf : {A : Type 0} → Answer A → ℕ
 numberOf (answer a) = 0
 numberOf (refused k) = k
+
+unfoldable pub valueOf : Answer ℕ → ℕ
+valueOf (answer x) = x
+valueOf (refused k) = 0
 
 pub data Call : Type 0 where
   cross turn turn-back along point area : Call

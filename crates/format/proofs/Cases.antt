@@ -3,7 +3,8 @@ use mathlib.Core.Path.{_≡_, refl}
 use mathlib.Core.Bool.{true, false}
 use mathlib.Core.List.{List, [], _∷_}
 use Prim.Native.Nat.{ℕ}
-use Rattle.words.specs.Word.{round, square, Letter}
+use Rattle.words.specs.declared.family.Family.the-variants.{Round as round, Square as square}
+use Rattle.words.specs.Word.{Letter}
 use Rattle.drawing.specs.Session.{answer}
 use Rattle.format.specs.Bytes.{wordIn}
 use Rattle.format.specs.Calls.{joiningOf}

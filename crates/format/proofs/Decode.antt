@@ -22,7 +22,9 @@ use Rattle.count.proofs.Logic.{pick-yes, pick-no}
 use Rattle.count.proofs.Below.{count-same, nth-below, nth-count, nth-has}
 use Rattle.count.proofs.Lists.{table-same, table-length, table-getD}
 use Rattle.words.specs.Brackets.{opens, closes, neither, Balanced}
-use Rattle.words.specs.Word.{Family, round, square, seen}
+use Rattle.words.specs.declared.family.Family.{Family}
+use Rattle.words.specs.declared.family.Family.the-variants.{Round as round, Square as square}
+use Rattle.words.specs.Word.{seen}
 use Rattle.words.proofs.Thin.{Thins, thin-balanced}
 use Rattle.bits.specs.Strings.{bit, isBit, rank, brackets}
 use Rattle.bits.proofs.Laws.{bit-below-2}

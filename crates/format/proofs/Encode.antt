@@ -18,7 +18,9 @@ use Rattle.count.specs.Below.{pick, count}
 use Rattle.count.proofs.Logic.{pick-yes, pick-no}
 use Rattle.count.proofs.Below.{count-same}
 use Rattle.words.specs.Brackets.{opens, closes, neither}
-use Rattle.words.specs.Word.{Family, round, square, Letter, Word, seen}
+use Rattle.words.specs.declared.family.Family.{Family}
+use Rattle.words.specs.declared.family.Family.the-variants.{Round as round, Square as square}
+use Rattle.words.specs.Word.{Letter, Word, seen}
 use Rattle.words.proofs.Thin.{Thins, thin-balanced}
 use Rattle.bits.specs.Strings.{bit, isBit, rank, brackets}
 use Rattle.format.specs.Bytes.{le16, Size, sizeIn, bitsA, bitsB, partB, familyOf, familyBit, closingBit, letterIn, wordIn}

@@ -3,7 +3,10 @@ pub mod Cases
 pub mod Bits
 pub mod Strings
 pub mod Parts
+pub mod Chain
 pub mod Passes
+pub mod Refusals
 pub mod Encode
 pub mod Decode
 pub mod Ranks
+pub mod Small

@@ -1,26 +1,33 @@
--- Checks 8 to 12 as propositions.
+-- Checks 8 to 12: the tests decide their propositions, and opening gives the number of the first that fails.
 --
--- Passes s       == what the checks say of the bytes s
+-- Passes s       == what the five checks say of the bytes s, in one record
 -- opens-passes, passes-opens == no refusal applies exactly if they hold
+-- open-refusals  == opening gives the number of the first check that fails, or m and n
 -- Assumes nothing.
-use mathlib.Core.Path.{_≡_, refl}
-use mathlib.Core.Bool.{Bool, true, false}
-use mathlib.Core.List.{List}
-use Prim.Native.Nat.{ℕ, suc, _+_, _≤_}
+use mathlib.Core.Path.{_≡_, refl, sym, _∙_}
+use mathlib.Core.Bool.{Bool, true}
+use mathlib.Core.List.{List, [], _∷_}
+use Prim.Native.Nat.{ℕ, _+_, _≤_}
 use native.Mathlib.Omega.{arith}
 use lib.ListN.{length}
 use Rattle.count.specs.Below.{Decides}
-use Rattle.count.proofs.Decides.{decides-eq, decides-le, decides-both}
+use Rattle.count.proofs.Decides.{decides-eq, decides-le, decides-both, decides-as}
 use Rattle.words.specs.Brackets.{Balanced, balanced}
-use Rattle.words.specs.Word.{Family, round, square}
+use Rattle.words.specs.declared.family.Family.{Family}
+use Rattle.words.specs.declared.family.Family.the-variants.{Round as round, Square as square}
 use Rattle.words.proofs.Mate.{balanced-decides}
 use Rattle.bits.specs.Strings.{rank, brackets, unusedZero}
+use Rattle.bits.proofs.Laws.{unused-zero-from, unused-zero-has}
+use Rattle.drawing.specs.Drawing.{mostBorders}
+use Rattle.format.specs.Refusals.{InOrder}
 use Rattle.format.specs.Bytes.{header, sizeIn, bitsA, bitsB, mapLength, partA, partB}
-use Rattle.format.specs.Open.{unless, sizeFits, lengthFits, unusedFits, onesFit, bracketsFit, openRefusal}
+use Rattle.format.specs.Open.{SizeFits, sizeFits, LengthFits, lengthFits, UnusedZero, UnusedFits, unusedFits, OnesFit, onesFit}
+use Rattle.format.specs.Open.{BracketsFit, bracketsFit, OpenCheck, openRefusal, opened, openOf}
+use Rattle.format.proofs.Chain.{chain, Chain, hold-none, hold-from, chain-zero, chain-in-order}
 
 pub record Passes (s : List ℕ) : Type 0 where
   pub header-fits : header ≤ length s
-  pub m-most : sizeIn s .m ≤ 2048
+  pub m-most : sizeIn s .m ≤ mostBorders
   pub n-least : 1 ≤ sizeIn s .n
   pub n-most : sizeIn s .n ≤ sizeIn s .m + 1
   pub long : length s ≡ mapLength (sizeIn s)
@@ -29,85 +36,104 @@ pub record Passes (s : List ℕ) : Type 0 where
   pub ones : rank 1 (partA s) (bitsA (sizeIn s)) ≡ bitsB round (sizeIn s)
   pub nested : (K : Family) → Balanced (brackets (partB K s)) (bitsB K (sizeIn s))
 
-unless-zero : (t : Bool) (k rest : ℕ) → unless t (suc k) rest ≡ 0 → (t ≡ true) × (rest ≡ 0)
-unless-zero true k rest e = (refl, e)
-unless-zero false k rest e = absurd (omega arith)
-
-decides-balanced : (K : Family) (s : List ℕ)
-    → Decides (balanced (brackets (partB K s)) (bitsB K (sizeIn s))) (Balanced (brackets (partB K s)) (bitsB K (sizeIn s)))
-decides-balanced K s =
-    let d = balanced-decides (brackets (partB K s)) (bitsB K (sizeIn s)) in
-    record { sound = d .0; complete = d .1 }
-
 by-family : (P : Family → Type 0) → P round → P square → (K : Family) → P K
 by-family P r q round = r
 by-family P r q square = q
 
-decides-itself : (t : Bool) → Decides t (t ≡ true)
-decides-itself t = record { sound = λ e. e; complete = λ e. e }
+unused-decides : (t : List ℕ) (k : ℕ) → Decides (unusedZero t k) (UnusedZero t k)
+unused-decides t k = record { sound = λ e i l h. unused-zero-has t k i e l; complete = λ z. unused-zero-from t k z }
 
--- each check and what it says
+brackets-decides : (s : List ℕ) (K : Family)
+    → Decides (balanced (brackets (partB K s)) (bitsB K (sizeIn s))) (Balanced (brackets (partB K s)) (bitsB K (sizeIn s)))
+brackets-decides s K =
+    let d = balanced-decides (brackets (partB K s)) (bitsB K (sizeIn s)) in
+    record { sound = d .0; complete = d .1 }
+
 module _ (s : List ℕ) where
-  decides-size : Decides (sizeFits s) ((((header ≤ length s) × (sizeIn s .m ≤ 2048)) × (1 ≤ sizeIn s .n)) × (sizeIn s .n ≤ sizeIn s .m + 1))
+  decides-size : Decides (sizeFits s) (SizeFits s)
   unfolding sizeFits
   decides-size =
-      decides-both
-      (decides-both (decides-both (decides-le header (length s)) (decides-le (sizeIn s .m) 2048)) (decides-le 1 (sizeIn s .n)))
-      (decides-le (sizeIn s .n) (sizeIn s .m + 1))
+      decides-as (λ t. record { header-fits = t .0 .0 .0; m-most = t .0 .0 .1; n-least = t .0 .1; n-most = t .1 })
+      (λ r. (((r .header-fits, r .m-most), r .n-least), r .n-most))
+      (decides-both
+      (decides-both (decides-both (decides-le header (length s)) (decides-le (sizeIn s .m) mostBorders)) (decides-le 1 (sizeIn s .n)))
+      (decides-le (sizeIn s .n) (sizeIn s .m + 1)))
 
-  decides-length : Decides (lengthFits s) (length s ≡ mapLength (sizeIn s))
+  decides-length : Decides (lengthFits s) (LengthFits s)
   unfolding lengthFits
-  decides-length = decides-eq (length s) (mapLength (sizeIn s))
+  decides-length = decides-as (λ e. record { long = e }) (λ r. r .long) (decides-eq (length s) (mapLength (sizeIn s)))
 
-  unused : Family → Bool
-  unused K = unusedZero (partB K s) (bitsB K (sizeIn s))
-
-  decides-unused : Decides (unusedFits s) (((unusedZero (partA s) (bitsA (sizeIn s)) ≡ true) × (unused round ≡ true)) × (unused square ≡ true))
-  unfolding unusedFits unused
+  decides-unused : Decides (unusedFits s) (UnusedFits s)
+  unfolding unusedFits
   decides-unused =
-      decides-both (decides-both (decides-itself (unusedZero (partA s) (bitsA (sizeIn s)))) (decides-itself (unused round))) (decides-itself (unused square))
+      decides-as
+      (λ t. record { unused-a = t .0 .0; unused-b = by-family (λ K. UnusedZero (partB K s) (bitsB K (sizeIn s))) (t .0 .1) (t .1) })
+      (λ r. ((r .unused-a, r .unused-b round), r .unused-b square))
+      (decides-both
+      (decides-both (unused-decides (partA s) (bitsA (sizeIn s))) (unused-decides (partB round s) (bitsB round (sizeIn s))))
+      (unused-decides (partB square s) (bitsB square (sizeIn s))))
 
-  decides-ones : Decides (onesFit s) (rank 1 (partA s) (bitsA (sizeIn s)) ≡ bitsB round (sizeIn s))
+  decides-ones : Decides (onesFit s) (OnesFit s)
   unfolding onesFit
-  decides-ones = decides-eq (rank 1 (partA s) (bitsA (sizeIn s))) (bitsB round (sizeIn s))
+  decides-ones =
+      decides-as (λ e. record { ones = e }) (λ r. r .ones) (decides-eq (rank 1 (partA s) (bitsA (sizeIn s))) (bitsB round (sizeIn s)))
 
-  nests : Family → Type 0
-  nests K = Balanced (brackets (partB K s)) (bitsB K (sizeIn s))
+  decides-brackets : Decides (bracketsFit s) (BracketsFit s)
+  unfolding bracketsFit
+  decides-brackets =
+      decides-as (λ t. record { nested = by-family (λ K. Balanced (brackets (partB K s)) (bitsB K (sizeIn s))) (t .0) (t .1) })
+      (λ r. (r .nested round, r .nested square))
+      (decides-both (brackets-decides s round) (brackets-decides s square))
 
-  decides-brackets : Decides (bracketsFit s) (nests round × nests square)
-  unfolding bracketsFit nests
-  decides-brackets = decides-both (decides-balanced round s) (decides-balanced square s)
+  tests : List Bool
+  tests = sizeFits s ∷ lengthFits s ∷ unusedFits s ∷ onesFit s ∷ bracketsFit s ∷ []
+
+  refusal-chain : openRefusal s ≡ chain tests 8
+  unfolding openRefusal tests chain
+  refusal-chain = refl
+
+  open-chain : Chain (OpenCheck s) 8 tests
+  unfolding tests
+  open-chain = (decides-size, λ a. (decides-length, λ b. (decides-unused, λ c. (decides-ones, λ d. (decides-brackets, λ e. tt)))))
 
   pub opens-passes : openRefusal s ≡ 0 → Passes s
-  unfolding openRefusal unused nests
+  unfolding tests
   opens-passes e =
-      let a = unless-zero (sizeFits s) 7 _ e in
-      let b = unless-zero (lengthFits s) 8 _ (a .1) in
-      let c = unless-zero (unusedFits s) 9 _ (b .1) in
-      let d = unless-zero (onesFit s) 10 _ (c .1) in
-      let f = unless-zero (bracketsFit s) 11 0 (d .1) in
-      let size = decides-size .sound (a .0) in
-      let zero = decides-unused .sound (c .0) in
-      let nest = decides-brackets .sound (f .0) in
+      let all = chain-zero (OpenCheck s) 8 tests (omega arith) open-chain .0 (sym refusal-chain ∙ e) in
+      let size : SizeFits s = all 8 (omega arith) (omega arith) in
+      let length : LengthFits s = all 9 (omega arith) (omega arith) in
+      let unused : UnusedFits s = all 10 (omega arith) (omega arith) in
+      let ones : OnesFit s = all 11 (omega arith) (omega arith) in
+      let brackets : BracketsFit s = all 12 (omega arith) (omega arith) in
       record {
-        header-fits = size .0 .0 .0;
-        m-most = size .0 .0 .1;
-        n-least = size .0 .1;
-        n-most = size .1;
-        long = decides-length .sound (b .0);
-        unused-a = zero .0 .0;
-        unused-b = by-family (λ K. unused K ≡ true) (zero .0 .1) (zero .1);
-        ones = decides-ones .sound (d .0);
-        nested = by-family nests (nest .0) (nest .1);
+        header-fits = size .header-fits;
+        m-most = size .m-most;
+        n-least = size .n-least;
+        n-most = size .n-most;
+        long = length .long;
+        unused-a = unused-zero-from (partA s) (bitsA (sizeIn s)) (unused .unused-a);
+        unused-b = λ K. unused-zero-from (partB K s) (bitsB K (sizeIn s)) (unused .unused-b K);
+        ones = ones .ones;
+        nested = brackets .nested;
       }
 
   pub passes-opens : Passes s → openRefusal s ≡ 0
-  unfolding openRefusal unused nests
+  unfolding tests
   passes-opens h =
-      rw (
-        decides-size .complete (((h .header-fits, h .m-most), h .n-least), h .n-most),
-        decides-length .complete (h .long),
-        decides-unused .complete ((h .unused-a, h .unused-b round), h .unused-b square),
-        decides-ones .complete (h .ones),
-        decides-brackets .complete (h .nested round, h .nested square),
-      )
+      let P : ℕ → Type 0 = OpenCheck s in
+      let size : SizeFits s = record { header-fits = h .header-fits; m-most = h .m-most; n-least = h .n-least; n-most = h .n-most } in
+      let unused : UnusedFits s = record {
+        unused-a = unused-decides (partA s) (bitsA (sizeIn s)) .sound (h .unused-a);
+        unused-b = λ K. unused-decides (partB K s) (bitsB K (sizeIn s)) .sound (h .unused-b K);
+      } in
+      refusal-chain
+      ∙ chain-zero P 8 tests (omega arith) open-chain .1
+      (hold-from P 8 13 size
+      (hold-from P 9 13 (record { long = h .long })
+      (hold-from P 10 13 unused
+      (hold-from P 11 13 (record { ones = h .ones })
+      (hold-from P 12 13 (record { nested = h .nested }) (hold-none P 13 13 (omega arith)))))))
+
+  pub open-refusals : InOrder (OpenCheck s) 8 12 (sizeIn s) (openOf s)
+  unfolding openOf opened tests
+  open-refusals = rw refusal-chain (chain-in-order (OpenCheck s) 8 12 tests (sizeIn s) (omega arith) (omega arith) open-chain)

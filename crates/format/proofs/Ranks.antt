@@ -12,7 +12,8 @@ use Prim.Native.Nat.{ℕ, _+_, _<_, _≤_}
 use native.Mathlib.Omega.{arith}
 use borrow.Author.Tests.{eqb-true}
 use Rattle.words.specs.Brackets.{inner, mate}
-use Rattle.words.specs.Word.{Family, sameFamily, seen, crossing}
+use Rattle.words.specs.declared.family.Family.{Family}
+use Rattle.words.specs.Word.{sameFamily, seen, crossing}
 use Rattle.words.proofs.Thin.{thin-inner, thin-mate}
 use Rattle.bits.specs.Strings.{bit, isBit, rank, select, brackets}
 use Rattle.bits.proofs.Laws.{rank-mono, rank-before}

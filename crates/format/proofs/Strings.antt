@@ -22,7 +22,9 @@ use Rattle.count.proofs.Logic.{true-not-false}
 use Rattle.count.proofs.Below.{count-same, count-not, count-before, nth-below, nth-same, nth-of-count}
 use Rattle.count.proofs.Lists.{table-same, gather-same, table-length, table-getD, gather-length, gather-getD}
 use Rattle.words.specs.Brackets.{opens, closes}
-use Rattle.words.specs.Word.{Family, round, square, sameFamily, Word}
+use Rattle.words.specs.declared.family.Family.{Family}
+use Rattle.words.specs.declared.family.Family.the-variants.{Round as round, Square as square}
+use Rattle.words.specs.Word.{sameFamily, Word}
 use Rattle.format.specs.Bytes.{familyOf, familyBit, closingBit, stringA, stringB}
 use Rattle.format.proofs.Bits.{EachBelow, each-below}
 

@@ -19,7 +19,9 @@ use Prim.Native.Nat.{ℕ, _+_, _-_, _*_, _/_, _%_, _<_}
 use lib.ListN.{length, getD, take, drop}
 use lib.Dec.{eqb}
 use Rattle.count.specs.Below.{pick, table, gather}
-use Rattle.words.specs.Word.{Family, round, square, sameFamily, Letter, Word}
+use Rattle.words.specs.declared.family.Family.{Family}
+use Rattle.words.specs.declared.family.Family.the-variants.{Round as round, Square as square}
+use Rattle.words.specs.Word.{sameFamily, Letter, Word}
 use Rattle.bits.specs.Strings.{bit, rank, bytesFor}
 
 abbrev pub EachBelow : ℕ → List ℕ → Type 0
@@ -89,7 +91,7 @@ partB square s = part s (startB square (sizeIn s)) (mapLength (sizeIn s))
 -- 01: "A: bit i is 1 if place i is of a marked border. B: for the marked places in order, 0 at a border's first place, 1 at
 -- its second. B* is the same for the unmarked ones."
 abbrev pub familyOf : ℕ → Family
-familyOf v = pick (eqb v 1) round square
+familyOf x = pick (eqb x 1) round square
 
 abbrev pub familyBit : Family → ℕ
 familyBit round = 1
@@ -120,7 +122,7 @@ stringB K w = gather (λ p. sameFamily K (w .letter p .family)) (λ p. closingBi
 -- the number that up to eight bits make, first bit lowest
 abbrev pub byteOf : List ℕ → ℕ
 byteOf [] = 0
-byteOf (v ∷ bits) = v + 2 * byteOf bits
+byteOf (x ∷ bits) = x + 2 * byteOf bits
 
 unfoldable pub bytesOf : List ℕ → List ℕ
 unfolding table bytesFor

@@ -14,17 +14,19 @@ use Prim.Native.Nat.{ℕ, zero, suc, pred, _+_, _-_}
 use lib.Dec.{eqb, ltb, leb}
 use Rattle.count.specs.Below.{pick}
 use Rattle.words.specs.Brackets.{step, back, number, isFirst, isLast, first, size}
-use Rattle.words.specs.Word.{Family, round, square, Word, seen, crossing}
-use Rattle.drawing.specs.Drawing.{Cell}
+use Rattle.words.specs.declared.family.Family.{Family}
+use Rattle.words.specs.declared.family.Family.the-variants.{Round as round, Square as square}
+use Rattle.words.specs.Word.{Word, seen, crossing}
+use Rattle.drawing.specs.Drawing.{Kind}
 use Rattle.drawing.specs.Session.{Answer, answer, refused, Call, Outcome, session}
 use Rattle.drawing.specs.Book.{noSuch}
 use Rattle.format.specs.Bytes.{Size, sizeIn, wordIn}
 use Rattle.format.specs.Open.{opened}
 
 -- a point is what round brackets enclose, an area is what square brackets enclose
-abbrev pub familyOfCell : Cell → Family
-familyOfCell Cell.point = round
-familyOfCell Cell.area = square
+abbrev pub familyOfKind : Kind → Family
+familyOfKind Kind.point = round
+familyOfKind Kind.area = square
 
 -- 01, Moves: "Cross: the place of the other end. Turn: the next place about the point. It is 0 at the point's last place. Turn
 -- back: the reverse. It is 0 at the point's first place. Along: the next place of the area walk. Point and area of a place."
@@ -76,36 +78,36 @@ unfolding session mapAnswer
 mapSession s i cs = session (mapAnswer s) i cs
 
 -- 14: "point not 1 to n"; 15: "area not 1 to m-n+2"
-abbrev pub cellsIn : Size → Cell → ℕ
-cellsIn z Cell.point = z .n
-cellsIn z Cell.area = z .m + 2 - z .n
+abbrev pub cellsIn : Size → Kind → ℕ
+cellsIn z Kind.point = z .n
+cellsIn z Kind.area = z .m + 2 - z .n
 
-abbrev pub isNumber : Size → Cell → ℕ → Bool
+abbrev pub isNumber : Size → Kind → ℕ → Bool
 isNumber z c k = ltb 0 k && leb k (cellsIn z c)
 
 -- 01, Moves: "First place of a point: 1 for point 1, else the place after the ( that reaches it. First place of an area: its
 -- lowest. Both are 0 if m = 0." The lowest place of a point is the place after the ( that reaches it.
-unfoldable pub firstIn : Word → Cell → ℕ → ℕ
+unfoldable pub firstIn : Word → Kind → ℕ → ℕ
 unfolding first seen
-firstIn w c k = pick (eqb (w .size) 0) 0 (suc (first (seen (familyOfCell c) w) (w .size) k))
+firstIn w c k = pick (eqb (w .size) 0) 0 (suc (first (seen (familyOfKind c) w) (w .size) k))
 
-unfoldable pub firstOf : List ℕ → Cell → ℕ → Answer ℕ
+unfoldable pub firstOf : List ℕ → Kind → ℕ → Answer ℕ
 unfolding opened sizeIn firstIn wordIn
 firstOf s c k = opened s (pick (isNumber (sizeIn s) c k) (answer (firstIn (wordIn s) c k)) (refused (noSuch c)))
 
 -- 01, Moves: "Degree of a point and sides of an area: how many places have that number."
-unfoldable pub placesIn : Word → Cell → ℕ → ℕ
+unfoldable pub placesIn : Word → Kind → ℕ → ℕ
 unfolding size seen
-placesIn w c k = size (seen (familyOfCell c) w) (w .size) k
+placesIn w c k = size (seen (familyOfKind c) w) (w .size) k
 
-unfoldable pub sizeOf : List ℕ → Cell → ℕ → Answer ℕ
+unfoldable pub sizeOf : List ℕ → Kind → ℕ → Answer ℕ
 unfolding opened sizeIn placesIn wordIn
 sizeOf s c k = opened s (pick (isNumber (sizeIn s) c k) (answer (placesIn (wordIn s) c k)) (refused (noSuch c)))
 
 -- 01, Moves: "An area's neighbour count is its number of sides."
 unfoldable pub neighboursOf : List ℕ → ℕ → Answer ℕ
 unfolding sizeOf
-neighboursOf s k = sizeOf s Cell.area k
+neighboursOf s k = sizeOf s Kind.area k
 
 -- the first of k places from position p on, in turning order, whose crossing lands at point v; 0 where none does
 unfoldable pub joinIn : Word → ℕ → ℕ → ℕ → ℕ
@@ -120,6 +122,6 @@ unfoldable pub joiningOf : List ℕ → ℕ → ℕ → Answer ℕ
 unfolding opened sizeIn joinIn wordIn placesIn first seen
 joiningOf s u v =
     opened s
-    (pick (isNumber (sizeIn s) Cell.point u && isNumber (sizeIn s) Cell.point v)
-    (answer (joinIn (wordIn s) v (placesIn (wordIn s) Cell.point u) (first (seen round (wordIn s)) (wordIn s .size) u)))
+    (pick (isNumber (sizeIn s) Kind.point u && isNumber (sizeIn s) Kind.point v)
+    (answer (joinIn (wordIn s) v (placesIn (wordIn s) Kind.point u) (first (seen round (wordIn s)) (wordIn s .size) u)))
     (refused 14))

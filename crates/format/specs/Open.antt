@@ -1,39 +1,66 @@
--- Opening: checks 8 to 12 on any byte string (document 01, the table).
+-- Opening: checks 8 to 12 on any byte string (document 01, the table), each as a test beside the proposition that it decides.
 --
 -- unless t k rest  == the number k unless the test holds, then the rest
+-- SizeFits, sizeFits       == passes 8: the header is there, m is at most 2,048 and n is 1 to m + 1
+-- LengthFits, lengthFits   == passes 9: the length is the header's
+-- UnusedFits, unusedFits   == passes 10: no unused bit is 1
+-- OnesFit, onesFit         == passes 11: A has 2n - 2 ones
+-- BracketsFit, bracketsFit == passes 12: B and B* are balanced
+-- UnusedZero t k   == the bits of the string t from bit k on are 0
+-- OpenCheck s k    == s passes check k of these five; nothing is asked of another number
 -- openRefusal s    == the first of 8 to 12 that applies to the bytes s; 0 where none does
--- Opens s          == none applies
+-- Opens s          == s is a byte string, and none applies
 -- openOf s         == opening: m and n, or the refusal
+-- afterRefusal k a == the refusal k, or a where k is 0
 -- opened s a       == a call's own answer a, after opening's checks
 -- Assumes nothing.
 use mathlib.Core.Path.{_≡_}
 use mathlib.Core.Bool.{Bool, true, false, _&&_}
 use mathlib.Core.List.{List}
-use Prim.Native.Nat.{ℕ, zero, suc, _+_, _-_, _*_}
+use Prim.Native.Nat.{ℕ, zero, suc, _+_, _-_, _*_, _≤_, _<_}
 use lib.ListN.{length}
 use lib.Dec.{eqb, leb}
-use Rattle.words.specs.Brackets.{balanced}
-use Rattle.words.specs.Word.{Family, round, square}
-use Rattle.bits.specs.Strings.{rank, brackets, unusedZero}
+use Rattle.count.specs.Below.{pick}
+use Rattle.words.specs.Brackets.{Balanced, balanced}
+use Rattle.words.specs.declared.family.Family.{Family}
+use Rattle.words.specs.declared.family.Family.the-variants.{Round as round, Square as square}
+use Rattle.bits.specs.Strings.{bit, rank, brackets, unusedZero}
+use Rattle.drawing.specs.Drawing.{mostBorders}
 use Rattle.drawing.specs.Session.{Answer, answer, refused}
-use Rattle.format.specs.Bytes.{Size, header, sizeIn, bitsA, bitsB, mapLength, partA, partB}
+use Rattle.format.specs.Bytes.{EachBelow, Size, header, sizeIn, bitsA, bitsB, mapLength, partA, partB}
 
 abbrev pub unless : Bool → ℕ → ℕ → ℕ
 unless true k rest = rest
 unless false k rest = k
 
 -- 8: "under 4 bytes, m over 2,048, or n not 1 to m+1"
+pub record SizeFits (s : List ℕ) : Type 0 where
+  pub header-fits : header ≤ length s
+  pub m-most : sizeIn s .m ≤ mostBorders
+  pub n-least : 1 ≤ sizeIn s .n
+  pub n-most : sizeIn s .n ≤ sizeIn s .m + 1
+
 unfoldable pub sizeFits : List ℕ → Bool
 unfolding sizeIn
 sizeFits s =
-    leb header (length s) && leb (sizeIn s .m) 2048 && leb 1 (sizeIn s .n) && leb (sizeIn s .n) (sizeIn s .m + 1)
+    leb header (length s) && leb (sizeIn s .m) mostBorders && leb 1 (sizeIn s .n) && leb (sizeIn s .n) (sizeIn s .m + 1)
 
 -- 9: "length differs from the header's"
+pub record LengthFits (s : List ℕ) : Type 0 where
+  pub long : length s ≡ mapLength (sizeIn s)
+
 unfoldable pub lengthFits : List ℕ → Bool
 unfolding mapLength sizeIn
 lengthFits s = eqb (length s) (mapLength (sizeIn s))
 
--- 10: "an unused bit is 1"
+-- 10: "an unused bit is 1". The unused bits of a string are those from bit k on.
+abbrev pub UnusedZero : List ℕ → ℕ → Type 0
+UnusedZero t k = (i : ℕ) → k ≤ i → i < 8 * length t → bit t i ≡ 0
+
+pub record UnusedFits (s : List ℕ) : Type 0 where
+  pub unused-a : UnusedZero (partA s) (bitsA (sizeIn s))
+  pub unused-b : (K : Family) → UnusedZero (partB K s) (bitsB K (sizeIn s))
+
 unfoldable pub unusedFits : List ℕ → Bool
 unfolding unusedZero partA partB sizeIn
 unusedFits s =
@@ -42,16 +69,28 @@ unusedFits s =
     && unusedZero (partB square s) (bitsB square (sizeIn s))
 
 -- 11: "A has not 2n-2 ones"
+pub record OnesFit (s : List ℕ) : Type 0 where
+  pub ones : rank 1 (partA s) (bitsA (sizeIn s)) ≡ 2 * sizeIn s .n - 2
+
 unfoldable pub onesFit : List ℕ → Bool
 unfolding rank partA sizeIn
 onesFit s = eqb (rank 1 (partA s) (bitsA (sizeIn s))) (bitsB round (sizeIn s))
 
 -- 12: "B or B* not balanced (0 opens)"
+pub record BracketsFit (s : List ℕ) : Type 0 where
+  pub nested : (K : Family) → Balanced (brackets (partB K s)) (bitsB K (sizeIn s))
+
 unfoldable pub bracketsFit : List ℕ → Bool
 unfolding balanced brackets partB sizeIn
 bracketsFit s =
     balanced (brackets (partB round s)) (bitsB round (sizeIn s))
     && balanced (brackets (partB square s)) (bitsB square (sizeIn s))
+
+abbrev pub OpenCheck : List ℕ → ℕ → Type 0
+OpenCheck s k =
+    pick (eqb k 8) (SizeFits s)
+    (pick (eqb k 9) (LengthFits s)
+    (pick (eqb k 10) (UnusedFits s) (pick (eqb k 11) (OnesFit s) (pick (eqb k 12) (BracketsFit s) Unit))))
 
 -- 01: "Checks run in table order"
 unfoldable pub openRefusal : List ℕ → ℕ
@@ -59,7 +98,9 @@ unfolding sizeFits lengthFits unusedFits onesFit bracketsFit
 openRefusal s =
     unless (sizeFits s) 8 (unless (lengthFits s) 9 (unless (unusedFits s) 10 (unless (onesFit s) 11 (unless (bracketsFit s) 12 0))))
 
+-- 01, demand 2: a "byte string accepted on opening"
 pub record Opens (s : List ℕ) : Type 0 where
+  pub bytes : EachBelow 256 s
   pub passes : openRefusal s ≡ 0
 
 abbrev pub afterRefusal : {A : Type 0} → ℕ → Answer A → Answer A

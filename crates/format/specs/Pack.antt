@@ -1,22 +1,29 @@
 -- Packing and unpacking (document 01, "Tour and packed map" and the table).
 --
 -- wordOf D         == the bracket word of the drawing's tour
+-- sizeFor D        == m and n of the drawing
 -- packedBytes D    == the bytes that packing writes for the drawing
+-- Room D w o, roomFits == passes 2: w entries of working list and o bytes of output are enough
+-- PackCheck D w o k == the drawing and the memory lent pass check k of 1 to 7; nothing is asked of another number
 -- packRefusal D w o == the first of 1 to 7 that applies, with w entries of working list and o bytes of output lent; 0 where none does
 -- packOf D w o     == packing: the map's bytes, or the refusal
+-- opensBefore w p  == how many first places come before position p
 -- endIn w p        == the end that unpacking puts at position p
+-- positionIn w h   == the position at which end h stands
 -- drawingOf w      == the drawing of a word: borders numbered by their first places, the first place the even end, start 0
 -- unpackOf s t k   == unpacking the map s into lists of t turning entries and k marks
 -- Assumes nothing.
 use mathlib.Core.Bool.{Bool, true, false, not, _&&_}
 use mathlib.Core.List.{List}
-use Prim.Native.Nat.{ℕ, zero, suc, _+_, _*_, _/_}
+use Prim.Native.Nat.{ℕ, zero, suc, _+_, _*_, _/_, _≤_}
 use lib.Dec.{eqb, ltb, leb}
 use Rattle.count.specs.Below.{pick, count, find, table}
 use Rattle.words.specs.Brackets.{step}
-use Rattle.words.specs.Word.{Family, round, square, Letter, Word, seen, crossing}
-use Rattle.drawing.specs.Drawing.{Drawing, Cell, borders, ends, border, isMarked, cells, endAt, isSecond}
-use Rattle.drawing.specs.Checks.{lengthsFit, inRange, distinct, joined, fewMarks, crosses}
+use Rattle.words.specs.declared.family.Family.{Family}
+use Rattle.words.specs.declared.family.Family.the-variants.{Round as round, Square as square}
+use Rattle.words.specs.Word.{Letter, Word, seen, crossing}
+use Rattle.drawing.specs.Drawing.{Drawing, Kind, borders, ends, border, isMarked, cells, endAt, isSecond}
+use Rattle.drawing.specs.Checks.{LengthsFit, lengthsFit, InRange, inRange, Distinct, distinct, Joined, joined, FewMarks, fewMarks, Flat, crosses}
 use Rattle.drawing.specs.Session.{Answer, answer, refused}
 use Rattle.format.specs.Bytes.{Size, sizeIn, longest, mapBytes, wordIn, familyBit}
 use Rattle.format.specs.Open.{unless, afterRefusal, opened}
@@ -29,13 +36,28 @@ wordOf D =
       letter = λ p. record { family = pick (isMarked D (border (endAt D p))) round square; closing = isSecond D p };
     }
 
+abbrev pub sizeFor : Drawing → Size
+sizeFor D = record { m = borders D; n = cells D Kind.point }
+
 unfoldable pub packedBytes : Drawing → List ℕ
 unfolding mapBytes borders cells wordOf
-packedBytes D = mapBytes (record { m = borders D; n = cells D Cell.point }) (wordOf D)
+packedBytes D = mapBytes (sizeFor D) (wordOf D)
 
 -- 2: "working list under 6m entries, or output under 1,029 bytes"
+pub record Room (D : Drawing) (work out : ℕ) : Type 0 where
+  pub working : 6 * borders D ≤ work
+  pub output : longest ≤ out
+
 abbrev pub roomFits : Drawing → ℕ → ℕ → Bool
 roomFits D work out = leb (6 * borders D) work && leb longest out
+
+abbrev pub PackCheck : Drawing → ℕ → ℕ → ℕ → Type 0
+PackCheck D work out k =
+    pick (eqb k 1) (LengthsFit D)
+    (pick (eqb k 2) (Room D work out)
+    (pick (eqb k 3) (InRange D)
+    (pick (eqb k 4) (Distinct D)
+    (pick (eqb k 5) (Joined D) (pick (eqb k 6) (FewMarks D) (pick (eqb k 7) (Flat D) Unit))))))
 
 -- 01: "Pack uses 1 to 7", in table order
 unfoldable pub packRefusal : Drawing → ℕ → ℕ → ℕ

@@ -1,25 +1,39 @@
 // The header: "m, then n, each two bytes, low byte first". A byte past the end is read as 0.
+use bits::byte;
 ghost use mathlib.Core.Path.{_≡_};
-ghost use Prim.Native.Nat.{_<_};
-ghost use lib.ListN.{getD};
+ghost use Prim.Native.Nat.{_+_, _-_, _<_};
 ghost use Rattle.format.specs.Bytes.{sizeIn, le16At};
-
-pub const HEADER: usize = 4;
 
 const AT_M: usize = 0;
 
 const AT_N: usize = 2;
 
+// m
 pub fn borders(map: &[u8]) -> usize
     ensures { λ r. ⌜ (r ≡ sizeIn (now (map .entry)) .m) × (r < 65536) ⌝ }
 {
     le16(map, AT_M)
 }
 
+// n
 pub fn points(map: &[u8]) -> usize
     ensures { λ r. ⌜ (r ≡ sizeIn (now (map .entry)) .n) × (r < 65536) ⌝ }
 {
     le16(map, AT_N)
+}
+
+// How many areas there are: m-n+2, and 0 where n is greater than m+2.
+pub fn areas(map: &[u8]) -> usize
+    ensures { λ r. ⌜ (r ≡ sizeIn (now (map .entry)) .m + 2 - sizeIn (now (map .entry)) .n) × (r < 65538) ⌝ }
+{
+    minus(borders(map) + 2, points(map))
+}
+
+// The difference; 0 where b is the greater.
+pub fn minus(a: usize, b: usize) -> usize
+    ensures { λ r. ⌜ r ≡ a - b ⌝ }
+{
+    if a < b { 0 } else { a - b }
 }
 
 // The number that the bytes at i and i + 1 hold.
@@ -30,17 +44,4 @@ fn le16(map: &[u8], i: usize) -> usize
     let low = byte(map, i);
     let high = byte(map, i + 1);
     low + 256 * high
-}
-
-// Byte i.
-fn byte(map: &[u8], i: usize) -> usize
-    ensures { λ r. ⌜ (r ≡ getD (now (map .entry)) i 0) × (r < 256) ⌝ }
-{
-    if i < map.len() { wide(map[i]) } else { 0 }
-}
-
-fn wide(x: u8) -> usize
-    ensures { λ r. ⌜ (r ≡ x) × (r < 256) ⌝ }
-{
-    x as usize
 }

@@ -1,29 +1,29 @@
-// The layout of a packed map: m and n as the header has them, and where the strings A, B and B* stand.
+// The layout of a packed map: m and n as the header has them, and the strings A, B and B*.
 //
 //     borders      m
 //     points       n
-//     bits_a       how many bits A has
+//     areas        m-n+2, how many areas there are
+//     bits_a       how many bits A has: one for each place
 //     bits_b       how many bits B or B* has
 //     map_length   the length of the whole map, as the header has it
 //     part_a       the bytes of A
 //     part_b       the bytes of B or B*
+//     family_bit   the bit that A has at the places of a family
 //
-// Conventions. A family of brackets goes by its bit in the string A: ROUND for B, SQUARE for B*. A
-// header byte past the end is 0. The functions take any bytes; part_a and part_b ask that the length be
-// the header's.
+// Conventions. Round brackets are those of B, square ones those of B*. A header byte past the end is 0,
+// and a string has the bytes that are there. No function asks anything of its caller.
 //
 // The source is document 01, "Tour and packed map". The definitions that the contracts cite are those of
 // the crate `format`.
 mod header;
-mod parts;
+mod strings;
 
-pub use header::HEADER;
+pub use header::areas;
 pub use header::borders;
 pub use header::points;
-pub use parts::ROUND;
-pub use parts::SQUARE;
-pub use parts::bits_a;
-pub use parts::bits_b;
-pub use parts::map_length;
-pub use parts::part_a;
-pub use parts::part_b;
+pub use strings::bits_a;
+pub use strings::bits_b;
+pub use strings::family_bit;
+pub use strings::map_length;
+pub use strings::part_a;
+pub use strings::part_b;

@@ -1,7 +1,7 @@
 // Runs packing and opening at their limits, and writes a line for each: what was tried, the number of the refusal or 0, and
 // the length of the map or its borders and points.
-use card::Opened;
 use libc::STDOUT_FILENO;
+use opening::Opened;
 use packing::Packed;
 
 // The drawings tried: one point with loops, one point with dangling borders, and loops with a single dangling border.
@@ -90,7 +90,7 @@ fn show_packed(turning: &[u16], marks: &[u8], out: &mut [u8]) {
 
 fn show_opened(map: &[u8]) {
     io::write_all(STDOUT_FILENO, b"open ");
-    match card::open(map) {
+    match opening::open(map) {
         Opened::Size(m, n) => show(0, m, n),
         Opened::Declined(k) => show(k, 0, 0),
     }

@@ -6,8 +6,8 @@
 -- line-fields      == a line is its five fields
 -- line-wrote       == they are put one after the other
 -- lines-more       == the lines of one place more
--- Lined            == what the loop of `put_lines` keeps: the lines of the first p places stand
--- lined-inside, lined-room == the next place is one of the map, and its line has room
+-- Lined            == what the loop of `put_lines` keeps: the lines of the first p bitsA (sizeIn s)tand
+-- lined-position, lined-room == the next place is one of the map, and its line has room
 -- Assumes nothing.
 use mathlib.Core.Path.{_≡_, refl, sym, ap, _∙_}
 use mathlib.Core.List.{List, [], _∷_, _++_, append-assoc, append-nil}
@@ -18,23 +18,30 @@ use lib.ListN.{length}
 use borrow.Author.Needs.{needs}
 use Rattle.count.proofs.Counts.{count-le}
 use Rattle.words.specs.Brackets.{isOpens, number}
-use Rattle.words.specs.Word.{Word, crossing}
+use Rattle.words.specs.declared.family.Family.{Family}
+use Rattle.words.specs.declared.family.Family.the-variants.{Round as round, Square as square}
+use Rattle.words.specs.Word.{Word, seen, crossing}
 use Rattle.words.proofs.Numbers.{number-range}
 use Rattle.drawing.specs.Session.{Call}
-use Rattle.format.specs.Bytes.{wordIn}
+use Rattle.format.specs.Bytes.{sizeIn, bitsA, wordIn}
 use Rattle.format.specs.Calls.{moveIn}
 use Rattle.format.specs.Open.{openRefusal}
 use Rattle.text.specs.Decimal.{decimal}
 use Rattle.text.specs.Input.{space, lineFeed}
 use Rattle.text.specs.Listing.{kind, placeLine, placeLines}
-use Rattle.walks.specs.Positions.{places, seenIn, Inside, Position}
-use Rattle.walks.proofs.Decoded.{places-most}
+use Rattle.walking.specs.Positions.{Position}
+use Rattle.walking.proofs.Decoded.{places-most}
 use Rattle.listing.specs.Writing.{Wrote}
 use Rattle.listing.proofs.Writes.{wrote-none, wrote-then, wrote-as}
 
-pub number-few : (s : List ℕ) (v p x : ℕ) → Inside s p → x ≡ number (seenIn v s) p → x < 10000
-number-few s v p x I e =
-    omega (arith, number-range (seenIn v s) (places s) p (I .below), count-le (λ q. isOpens (seenIn v s q)) (places s), places-most s (I .opens))
+pub number-few : (s : List ℕ) (K : Family) (p x : ℕ) → Position s p → x ≡ number (seen K (wordIn s)) p → x < 10000
+number-few s K p x P e =
+    omega (
+      arith,
+      number-range (seen K (wordIn s)) (bitsA (sizeIn s)) p (P .below),
+      count-le (λ q. isOpens (seen K (wordIn s) q)) (bitsA (sizeIn s)),
+      places-most s (P .opens),
+    )
 
 -- ---- one line
 module _ (old k : List ℕ) (at a r b : ℕ) (mid new : List ℕ) (h : at + 2 ≤ length old) where
@@ -56,12 +63,12 @@ line-fields w p k x y z ek ex ey ez = rw (ek, ex, ey, ez) (simp (append-assoc, a
 
 module _ (s : List ℕ) (p at : ℕ) (o₀ o₁ o₂ o₃ o₄ o₅ : List ℕ) (a b c d r : ℕ) (h : at + 22 ≤ length o₀) where
   pub line-wrote : (x y z : ℕ) → Wrote o₀ at (field (p + 1) space) a o₁ → Wrote o₁ a (kind (wordIn s .letter p) ++ (space ∷ [])) b o₂
-      → Position s (crossing (wordIn s) p) x → Wrote o₂ b (field (x + 1) space) c o₃
-      → y ≡ number (seenIn 1 s) p → Wrote o₃ c (field y space) d o₄
-      → z ≡ number (seenIn 0 s) p → Wrote o₄ d (field z lineFeed) r o₅
+      → x ≡ crossing (wordIn s) p → Wrote o₂ b (field (x + 1) space) c o₃
+      → y ≡ number (seen round (wordIn s)) p → Wrote o₃ c (field y space) d o₄
+      → z ≡ number (seen square (wordIn s)) p → Wrote o₄ d (field z lineFeed) r o₅
       → Wrote o₀ at (placeLine (wordIn s) p) r o₅
   unfolding moveIn
-  line-wrote x y z A B P C ey D ez E =
+  line-wrote x y z A B ex C ey D ez E =
       let l : at ≤ length o₀ = omega arith in
       let k = kind (wordIn s .letter p) ++ (space ∷ []) in
       let B′ = wrote-then o₀ (field (p + 1) space) at a o₁ l A k b o₂ B in
@@ -69,7 +76,7 @@ module _ (s : List ℕ) (p at : ℕ) (o₀ o₁ o₂ o₃ o₄ o₅ : List ℕ) 
       let D′ = wrote-then o₀ ((field (p + 1) space ++ k) ++ field (x + 1) space) at c o₃ l C′ (field y space) d o₄ D in
       let E′ = wrote-then o₀ (((field (p + 1) space ++ k) ++ field (x + 1) space) ++ field y space) at d o₄ l D′ (field z lineFeed) r o₅ E in
       wrote-as o₀ ((((field (p + 1) space ++ k) ++ field (x + 1) space) ++ field y space) ++ field z lineFeed) (placeLine (wordIn s) p) at r o₅
-      (line-fields (wordIn s) p (kind (wordIn s .letter p)) x y z refl (P .is) ey ez) E′
+      (line-fields (wordIn s) p (kind (wordIn s .letter p)) x y z refl ex ey ez) E′
 
 pub ruleset line-all = (number-few, needs)
 
@@ -86,7 +93,7 @@ lines-more w q (suc k) =
 
 pub record Lined (s old : List ℕ) (at n p : ℕ) (out : List ℕ) (next : ℕ) : Type 0 where
   pub opens : openRefusal s ≡ 0
-  pub count : n ≡ places s
+  pub count : n ≡ bitsA (sizeIn s)
   pub within : p ≤ n
   pub so-far : Wrote old at (placeLines (wordIn s) 0 p) next out
   pub room : at + 22 * 4096 ≤ length old
@@ -94,14 +101,14 @@ pub record Lined (s old : List ℕ) (at n p : ℕ) (out : List ℕ) (next : ℕ)
   pub same : length out ≡ length old
 
 module _ (s old : List ℕ) (at n : ℕ) where
-  pub lined-start : openRefusal s ≡ 0 → n ≡ places s → at + 22 * 4096 ≤ length old → Lined s old at n 0 old at
+  pub lined-start : openRefusal s ≡ 0 → n ≡ bitsA (sizeIn s) → at + 22 * 4096 ≤ length old → Lined s old at n 0 old at
   unfolding placeLines
   lined-start o e h =
       record { opens = o; count = e; within = omega arith; so-far = wrote-none old at; room = h; most = omega arith; same = refl }
 
   module _ (p next : ℕ) (out : List ℕ) (L : Lined s old at n p out next) where
-    pub lined-inside : p < n → Inside s p
-    lined-inside l = let m = places-most s (L .opens) in record { opens = L .opens; below = omega (arith, L .count); few = omega (arith, L .count) }
+    pub lined-position : p < n → Position s p
+    lined-position l = let m = places-most s (L .opens) in record { opens = L .opens; below = omega (arith, L .count); few = omega (arith, L .count) }
 
     pub lined-room : p < n → next + 22 ≤ length out
     lined-room l = omega (arith, L .count, L .room, L .most, L .same, places-most s (L .opens))
@@ -123,9 +130,9 @@ module _ (s old : List ℕ) (at n : ℕ) where
           same = e ∙ L .same;
         }
 
-    pub lined-end : n ≤ p → Wrote old at (placeLines (wordIn s) 0 (places s)) next out
+    pub lined-end : n ≤ p → Wrote old at (placeLines (wordIn s) 0 (bitsA (sizeIn s))) next out
     lined-end l =
-        let e : p ≡ places s = omega (arith, L .count, L .within) in
-        wrote-as old (placeLines (wordIn s) 0 p) (placeLines (wordIn s) 0 (places s)) at next out (ap (placeLines (wordIn s) 0) e) (L .so-far)
+        let e : p ≡ bitsA (sizeIn s) = omega (arith, L .count, L .within) in
+        wrote-as old (placeLines (wordIn s) 0 p) (placeLines (wordIn s) 0 (bitsA (sizeIn s))) at next out (ap (placeLines (wordIn s) 0) e) (L .so-far)
 
-pub ruleset lined-all = (lined-start, lined-inside, lined-room, lined-step, lined-end, needs)
+pub ruleset lined-all = (lined-start, lined-position, lined-room, lined-step, lined-end, needs)

@@ -12,12 +12,11 @@ use native.Mathlib.Omega.{arith}
 use lib.ListN.{length, drop, length-append}
 use Rattle.drawing.specs.Laid.{laid}
 use Rattle.drawing.specs.Session.{answer}
-use Rattle.format.specs.Bytes.{wordIn}
+use Rattle.format.specs.Bytes.{sizeIn, bitsA, wordIn}
 use Rattle.format.specs.Open.{openRefusal, afterRefusal, opened}
 use Rattle.text.specs.Decimal.{codes, decimal}
 use Rattle.text.specs.Input.{lineFeed}
 use Rattle.text.specs.Listing.{heading, placeLines, listing, refusedLine, listed}
-use Rattle.walks.specs.Positions.{places}
 use Rattle.listing.specs.Printed.{printed}
 use Rattle.listing.specs.Writing.{Wrote}
 use Rattle.listing.proofs.Writes.{wrote-then}
@@ -63,9 +62,9 @@ module _ (old new : List ℕ) (r : ℕ) where
       wrote-stands (refusedLine k) (wrote-then old (codes "refused ") 0 a mid (omega arith) W (decimal k ++ (lineFeed ∷ [])) r new Y)
 
   pub listing-wrote : (s : List ℕ) (a : ℕ) (mid : List ℕ) → Wrote old 0 heading a mid
-      → Wrote mid a (placeLines (wordIn s) 0 (places s)) r new → Wrote old 0 (listing s) r new
+      → Wrote mid a (placeLines (wordIn s) 0 (bitsA (sizeIn s))) r new → Wrote old 0 (listing s) r new
   unfolding listing wordIn
-  listing-wrote s a mid W Y = wrote-then old heading 0 a mid (omega arith) W (placeLines (wordIn s) 0 (places s)) r new Y
+  listing-wrote s a mid W Y = wrote-then old heading 0 a mid (omega arith) W (placeLines (wordIn s) 0 (bitsA (sizeIn s))) r new Y
 
   module _ (s : List ℕ) (k : ℕ) (e : k ≡ openRefusal s) where
     pub refused-printed : (k ≡ 0 → ⊥) → Stands (refusedLine k) r old new → Stands (printed s) r old new

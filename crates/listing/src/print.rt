@@ -2,6 +2,7 @@
 use crate::lines::put_lines;
 use crate::write::put_number;
 use crate::write::put_text;
+use format::MOST_ENDS;
 ghost use mathlib.Core.Path.{_≡_};
 ghost use Prim.Native.Nat.{_≤_};
 ghost use lib.ListN.{length};
@@ -12,14 +13,14 @@ ghost use Rattle.listing.specs.Printed.{printed};
 ghost use Rattle.listing.specs.Writing.{Wrote};
 
 // The room of the longest listing: the heading, and 4,096 lines of at most 22 bytes.
-pub const ROOM: usize = 26 + 4096 * 22;
+pub const ROOM: usize = 26 + MOST_ENDS * 22;
 
 // The listing of the map, or the line of the check that declines it. The text's length.
 pub fn list(map: &[u8], out: &mut [u8; ROOM]) -> usize
     ensures { λ r. ⌜ r ≡ length (printed (now (map .entry))) ⌝ }
     ensures { λ _. ⌜ now (out .exit) ≡ laid (printed (now (map .entry))) (now (out .entry)) ⌝ }
 {
-    let k = card::refusal(map);
+    let k = opening::refusal(map);
     if k != 0 {
         return refused(k, out);
     }

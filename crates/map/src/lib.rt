@@ -12,24 +12,21 @@
 // declines with the number of the first check that fails.
 //
 // The source is document 01, "Moves", for the answers, and its table, rows 8 to 15, for the checks. The
-// definitions that the contracts cite are those of the crate `format`. The types and their meaning are
-// those of `calls`; the functions stand in `moves`, `turns`, `counts` and `joining`.
-pub use calls::Area;
-pub use calls::AreaAnswer;
-pub use calls::Count;
-pub use calls::Place;
-pub use calls::PlaceAnswer;
-pub use calls::Point;
-pub use calls::PointAnswer;
-pub use counts::area_first;
-pub use counts::degree;
-pub use counts::neighbours;
-pub use counts::point_first;
-pub use counts::sides;
-pub use joining::joining;
+// definitions that the contracts cite are those of the crate `format`. The types, their meaning and the
+// checks are those of `opening`.
+mod moves;
+mod numbers;
+mod search;
+
 pub use moves::along;
-pub use moves::area_at;
 pub use moves::cross;
-pub use moves::point_at;
-pub use turns::turn;
-pub use turns::turn_back;
+pub use moves::turn;
+pub use moves::turn_back;
+pub use numbers::area_at;
+pub use numbers::area_first;
+pub use numbers::degree;
+pub use numbers::neighbours;
+pub use numbers::point_at;
+pub use numbers::point_first;
+pub use numbers::sides;
+pub use search::joining;

@@ -17,8 +17,8 @@ use Rattle.matching.specs.Scans.{ahead, behind}
 use Rattle.matching.specs.declared.scans.Scan.{Scan}
 use Rattle.matching.specs.Bytes.{Entry}
 use Rattle.matching.proofs.Scanning.{whole, stuck}
-use Rattle.matching.proofs.Ways.{opens-at, closes-at, ahead-opens, ahead-closes, ahead-stuck, ahead-end, ahead-on, ahead-byte}
-use Rattle.matching.proofs.Ways.{behind-opens, behind-closes, behind-stuck, behind-end, behind-on, behind-byte}
+use Rattle.matching.proofs.Laws.{opens-at, closes-at, ahead-opens, ahead-closes, ahead-stuck, ahead-end, ahead-on, ahead-byte}
+use Rattle.matching.proofs.Laws.{behind-opens, behind-closes, behind-stuck, behind-end, behind-on, behind-byte}
 
 -- ---- forwards
 pub record Going (s : List ℕ) (n p d q e : ℕ) : Type 0 where

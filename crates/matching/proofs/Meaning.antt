@@ -17,7 +17,7 @@ use Rattle.bits.specs.Strings.{bit, isBit, brackets}
 use Rattle.bits.proofs.Laws.{bit-cases, bracket-0, bracket-1}
 use Rattle.matching.specs.Scans.{ahead, behind}
 use Rattle.matching.specs.declared.scans.Scan.{Scan}
-use Rattle.matching.proofs.Ways.{opens-at, ahead-opens, ahead-closes, ahead-stuck, ahead-end, behind-opens, behind-closes, behind-stuck, behind-end}
+use Rattle.matching.proofs.Laws.{opens-at, ahead-opens, ahead-closes, ahead-stuck, ahead-end, behind-opens, behind-closes, behind-stuck, behind-end}
 use Rattle.matching.proofs.Depth.{Level, level-start, level-opens, level-closes, level-end, level-stuck}
 use Rattle.matching.proofs.Depth.{Inside, inside-start, inside-opens, inside-closes, inside-here, inside-none}
 use Rattle.matching.proofs.Depth.{Closed, closed-start, closed-opens, closed-closes, closed-here, closed-none}

@@ -1,15 +1,17 @@
 -- The answers of the public functions, from the scans that they make: for their proofs.
 --
 -- balanced-past, balanced-not, balanced-so == is_balanced: the string is too short; the scan stops, or passes all
--- closing-near, closing-first, closing-on == closing: one scan to n; or one to the next byte, which stops there, or goes on
+-- ahead-none, ahead-at-once, ahead-rest == ahead: over nothing, over a few brackets at once, over all others
+-- ahead-stops, ahead-goes           == a scan to m stops, or goes on
 -- left-most, depth-most             == what a scan leaves is at most n
+-- closing-is                        == closing: where the scan from it stops
 -- enclosing-past, enclosing-first, enclosing-on, enclosing-room == enclosing: past the end; and the same, backwards
 -- partner-far, partner-ahead, partner-behind == partner: no closing can come, the closing, the opening
 -- Assumes nothing.
-use mathlib.Core.Path.{_≡_, refl, sym, ap, _∙_}
+use mathlib.Core.Path.{_≡_, sym, ap, _∙_}
 use mathlib.Core.Bool.{false}
 use mathlib.Core.List.{List}
-use Prim.Native.Nat.{ℕ, pred, _+_, _-_, _/_, _<_, _≤_}
+use Prim.Native.Nat.{ℕ, pred, _+_, _-_, _*_, _/_, _<_, _≤_, min}
 use native.Mathlib.Numerals.{add-one}
 use native.Mathlib.Omega.{arith}
 use borrow.Author.Tests.{ne-eqb}
@@ -18,13 +20,14 @@ use lib.ListN.{length}
 use Rattle.words.specs.Brackets.{inner, balanced, closer, mate}
 use Rattle.words.proofs.Stack.{inner-le, inner-opens}
 use Rattle.words.proofs.Mate.{mate-of-opens, mate-of-closes}
-use Rattle.bits.specs.Strings.{bit, brackets}
+use Rattle.bits.specs.Strings.{bit, among, widest, brackets}
 use Rattle.bits.proofs.Laws.{bit-past, bracket-0, bracket-not-0}
 use Rattle.matching.specs.Scans.{ahead, behind}
 use Rattle.matching.specs.declared.scans.Scan.{Scan}
 use Rattle.matching.proofs.Depth.{inside-far}
+use Rattle.matching.proofs.Scanning.{whole, stuck}
 use Rattle.matching.proofs.Meaning.{balanced-scan, closer-scan, inner-scan}
-use Rattle.matching.proofs.Ways.{ahead-on, ahead-off, ahead-left, ahead-depth, behind-on, behind-off, behind-left, behind-depth}
+use Rattle.matching.proofs.Laws.{ahead-end, ahead-few, ahead-on, ahead-off, ahead-left, ahead-depth, behind-on, behind-off, behind-left, behind-depth}
 
 -- past the end of the string the last bracket opens
 inner-past : (s : List ℕ) (i : ℕ) → length s < i / 8 → inner (brackets s) i ≡ i
@@ -43,29 +46,42 @@ balanced-not s n w h z = rw (ne-eqb (w .left) 0 z) at (rw (← h) at (balanced-s
 pub balanced-so : (s : List ℕ) (n : ℕ) (w : Scan) → w ≡ ahead s n 0 0 → w .left ≡ 0 → eqb (w .depth) 0 ≡ balanced (brackets s) n
 balanced-so s n w h z = rw z at (rw (← h) at (balanced-scan s n))
 
--- ---- closing
+-- ---- ahead
 pub left-most : (s : List ℕ) (n p d : ℕ) (w : Scan) → w ≡ ahead s n p d → w .left ≤ n
 left-most s n p d w h = rw h (omega (arith, ahead-left s n p d))
 
-pub depth-most : (s : List ℕ) (n p : ℕ) (w : Scan) → w ≡ ahead s n p 0 → w .depth ≤ n
-depth-most s n p w h = rw h (omega (arith, ahead-depth s n p 0))
+pub depth-most : (s : List ℕ) (n p d : ℕ) (w : Scan) → w ≡ ahead s n p d → p ≤ n → d ≤ p → w .depth ≤ n
+depth-most s n p d w h l k = rw h (omega (arith, ahead-depth s n p d))
 
-module _ (s : List ℕ) (n i : ℕ) (o : bit s i ≡ 0) where
-  pub closing-near : (w : Scan) → i < n → w ≡ ahead s n (i + 1) 0 → n - w .left ≡ closer (brackets s) n i
-  closing-near w l h = rw (h, add-one i) (closer-scan s n i l o)
+module _ (s : List ℕ) (n p d e : ℕ) (h : e ≡ min d p) where
+  pub ahead-none : n ≤ p → whole e ≡ ahead s n p (min d p)
+  ahead-none l = rw h (sym (ahead-end s n p (min d p) l))
 
-  pub closing-first : (m : ℕ) (w : Scan) → i < m → m ≤ n → w ≡ ahead s m (i + 1) 0 → (w .left ≡ 0 → ⊥) → m - w .left ≡ closer (brackets s) n i
-  closing-first m w a b h z =
+  -- c of the brackets close
+  pub ahead-at-once : (l c : ℕ) → l ≡ min e widest → n - p ≤ l → c ≡ among 1 s p (min (n - p) widest) → c ≤ min (n - p) widest
+      → whole (e + (n - p) - 2 * c) ≡ ahead s n p (min d p)
+  ahead-at-once l c f g r k =
+      let q : min (n - p) widest ≡ n - p = omega arith in
+      rw (← h) (sym (ahead-few s n p e c (omega arith) (rw q at r) (omega arith)))
+
+  pub ahead-rest : (w : Scan) → w ≡ ahead s n p e → w ≡ ahead s n p (min d p)
+  ahead-rest w r = rw (← h) r
+
+-- one scan to m, and one from there on
+module _ (s : List ℕ) (n m p d : ℕ) (l : p ≤ m) (h : m ≤ n) (w : Scan) (r : w ≡ ahead s m p d) where
+  pub ahead-stops : (w .left ≡ 0 → ⊥) → stuck (w .left + (n - m)) ≡ ahead s n p d
+  ahead-stops z =
       let x : 0 < w .left = omega arith in
-      let e = ahead-off s n m (i + 1) 0 (omega arith) b (rw h at x) in
-      let f = ahead-left s m (i + 1) 0 in
-      rw h (omega (arith, closing-near (ahead s n (i + 1) 0) (omega arith) refl))
+      rw r (sym (ahead-off s n m p d l h (rw r at x)))
 
-  pub closing-on : (m : ℕ) (w v : Scan) → i < m → m ≤ n → w ≡ ahead s m (i + 1) 0 → w .left ≡ 0
-      → v ≡ ahead s n m (w .depth) → n - v .left ≡ closer (brackets s) n i
-  closing-on m w v a b h z g =
-      let e = ahead-on s n m (i + 1) 0 (omega arith) b (rw h at z) in
-      rw (g, h, ← e) (closing-near (ahead s n (i + 1) 0) (omega arith) refl)
+  pub ahead-goes : (v : Scan) → w .left ≡ 0 → v ≡ ahead s n m (w .depth) → v ≡ ahead s n p d
+  ahead-goes v z g = g ∙ rw r (sym (ahead-on s n m p d l h (rw r at z)))
+
+-- ---- closing
+pub closing-is : (s : List ℕ) (n i : ℕ) (w : Scan) → i < n → bit s i ≡ 0 → w ≡ ahead s n (i + 1) (min 0 (i + 1)) → n - w .left ≡ closer (brackets s) n i
+closing-is s n i w l o h =
+    let z : min 0 (i + 1) ≡ 0 = omega arith in
+    rw (h, z, add-one i) (closer-scan s n i l o)
 
 -- ---- enclosing
 pub enclosing-past : (s : List ℕ) (i : ℕ) → length s < i / 8 → (i ≡ inner (brackets s) i) × (i ≤ i)
@@ -75,7 +91,7 @@ module _ (s : List ℕ) (i m : ℕ) (w : Scan) (l : m ≤ i) (h : w ≡ behind s
   pub enclosing-first : (w .left ≡ 0 → ⊥) → (m + w .left ≡ inner (brackets s) i) × (m + w .left ≤ i)
   enclosing-first z =
       let x : 0 < w .left = omega arith in
-      let e = behind-off s 0 m i 0 (omega arith) l (rw h at x) in
+      let e = ap (λ v. v .left) (behind-off s 0 m i 0 (omega arith) l (rw h at x)) in
       let f : w .left ≤ i - m = rw h (behind-left s m i 0) in
       let g : m + w .left ≡ inner (brackets s) i = rw h (omega (arith, inner-scan s i)) in
       (g, omega arith)

@@ -4,9 +4,9 @@
 -- scan-none, scan-waits, scan-takes, scan-stuck == over no bracket, and over one
 -- scan-left, scan-depth == it leaves no more than there are, and each bracket adds at most one that waits
 -- far go m p        == the position m steps on; far-ahead, far-behind: m more, m less
--- scan-on, scan-off == a scan of m + k brackets is one of m and, where that passes them all, one of k from there on
+-- scan-on, scan-off == a scan of m + k brackets is one of m and, where that passes them all, one of k from there on; else it stops there
 -- Assumes nothing.
-use mathlib.Core.Path.{_≡_, refl, _∙_}
+use mathlib.Core.Path.{_≡_, refl, sym, ap, _∙_}
 use mathlib.Core.Logic.{_⊎_, inl, inr}
 use mathlib.Core.Bool.{Bool, true, false}
 use Prim.Native.Nat.{ℕ, zero, suc, pred, _+_, _-_, _<_, _≤_}
@@ -96,11 +96,10 @@ module _ (go : ℕ → ℕ) (pairs : ℕ → Bool) where
         | inr w ↦ rw (suc-add m k, w .goes (m + k), w .goes m) (scan-on m k (go p) (w .waiting) (rw (w .goes m) at z))
       ]
 
-  pub scan-off : (m k p d : ℕ) → 0 < scan go pairs m p d .left
-      → scan go pairs (m + k) p d .left ≡ scan go pairs m p d .left + k
+  pub scan-off : (m k p d : ℕ) → 0 < scan go pairs m p d .left → scan go pairs (m + k) p d ≡ stuck (scan go pairs m p d .left + k)
   scan-off zero k p d z = absurd (omega (arith, rw (scan-none p d) at z))
   scan-off (suc m) k p d z =
       elim (step p d) [
-        | inl s ↦ rw (suc-add m k, s (m + k), s m) (omega arith)
+        | inl s ↦ rw (suc-add m k, s (m + k), s m) (ap stuck (sym (suc-add m k)))
         | inr w ↦ rw (suc-add m k, w .goes (m + k), w .goes m) (scan-off m k (go p) (w .waiting) (rw (w .goes m) at z))
       ]

@@ -1,10 +1,10 @@
 // Bracket matching: 0 opens, 1 closes.
-use crate::ahead::ahead_bits;
-use crate::ahead::ahead_bytes;
-use crate::behind::behind_bits;
-use crate::behind::behind_bytes;
+use crate::backwards::behind_bits;
+use crate::backwards::behind_bytes;
+use crate::forwards::ahead;
+use crate::forwards::ahead_bytes;
 ghost use mathlib.Core.Path.{_≡_};
-ghost use Prim.Native.Nat.{pred, _*_, _<_, _≤_};
+ghost use Prim.Native.Nat.{pred, _<_, _≤_};
 ghost use Rattle.bits.specs.Strings.{bit, brackets};
 ghost use Rattle.words.specs.Brackets.{balanced, mate, inner, closer};
 
@@ -56,23 +56,7 @@ fn closing(s: &[u8], n: usize, i: usize) -> usize
     requires { ⌜ (i < n) × (bit (now s) i ≡ 0) ⌝ }
     ensures { λ r. ⌜ r ≡ closer (brackets (now (s .entry))) n i ⌝ }
 {
-    let k = i / 8 + 1;
-    if n / 8 < k {
-        return n - ahead_bits(s, n, i + 1, 0).left;
-    }
-    closing_beyond(s, n, i, k)
-}
-
-// The same where byte k is the first after bracket i, and n does not come before it.
-fn closing_beyond(s: &[u8], n: usize, i: usize, k: usize) -> usize
-    requires { ⌜ (bit (now s) i ≡ 0) × ((i < 8 * k) × (8 * k ≤ n)) ⌝ }
-    ensures { λ r. ⌜ r ≡ closer (brackets (now (s .entry))) n i ⌝ }
-{
-    let w = ahead_bits(s, 8 * k, i + 1, 0);
-    if w.left != 0 {
-        return 8 * k - w.left;
-    }
-    n - ahead_bytes(s, n, k, w.depth).left
+    n - ahead(s, n, i + 1, 0).left
 }
 
 fn before(x: usize) -> usize

@@ -1,4 +1,5 @@
 -- Permutations of the numbers below a bound: the laws.
+pub mod Cases
 pub mod Iter
 pub mod Same
 pub mod Low

@@ -1,11 +1,11 @@
--- Permutations of the numbers below n, and their cycles (orbits).
+-- Permutations of the numbers below N, and their cycles (orbits).
 --
 -- iter f k x     == k steps of f from x
--- Permutes n f   == f maps the numbers below n into themselves and sends no two of them to one
+-- Permutes N f   == f maps the numbers below N into themselves and sends no two of them to one
 -- SameCycle f x y == some number of steps of f leads from x to y
 -- lowest f k x   == the least of x and the k numbers that follow it
--- low n f x      == the least of x's cycle
--- cycles n f     == the number of cycles: how many x < n are the least of their own
+-- low N f x      == the least of x's cycle
+-- cycles N f     == the number of cycles: how many x < N are the least of their own
 -- Assumes nothing.
 use mathlib.Core.Path.{_≡_}
 use mathlib.Core.Bool.{Bool}
@@ -17,9 +17,9 @@ unfoldable pub iter : (ℕ → ℕ) → ℕ → ℕ → ℕ
 iter f zero x = x
 iter f (suc k) x = f (iter f k x)
 
-pub record Permutes (n : ℕ) (f : ℕ → ℕ) : Type 0 where
-  pub below : (x : ℕ) → x < n → f x < n
-  pub injective : (x y : ℕ) → x < n → y < n → f x ≡ f y → x ≡ y
+pub record Permutes (N : ℕ) (f : ℕ → ℕ) : Type 0 where
+  pub below : (x : ℕ) → x < N → f x < N
+  pub injective : (x y : ℕ) → x < N → y < N → f x ≡ f y → x ≡ y
 
 pub record SameCycle (f : ℕ → ℕ) (x y : ℕ) : Type 0 where
   pub steps : ℕ
@@ -31,13 +31,13 @@ lowest f (suc k) x = min x (lowest f k (f x))
 
 unfoldable pub low : ℕ → (ℕ → ℕ) → ℕ → ℕ
 unfolding lowest
-low n f x = lowest f n x
+low N f x = lowest f N x
 
 -- whether x is the least of its cycle
 unfoldable pub leads : ℕ → (ℕ → ℕ) → ℕ → Bool
 unfolding low
-leads n f x = eqb (low n f x) x
+leads N f x = eqb (low N f x) x
 
 unfoldable pub cycles : ℕ → (ℕ → ℕ) → ℕ
 unfolding count leads
-cycles n f = count (leads n f) n
+cycles N f = count (leads N f) N

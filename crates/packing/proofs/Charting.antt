@@ -21,8 +21,9 @@ use Rattle.count.proofs.Logic.{bool-same}
 use Rattle.count.proofs.Below.{any-has, any-from, count-same, count-le}
 use Rattle.orbits.specs.Cycles.{Permutes}
 use Rattle.orbits.proofs.Conjugate.{count-renamed}
-use Rattle.words.specs.Word.{round, square, sameFamily, Letter}
-use Rattle.drawing.specs.Drawing.{Drawing, Cell, borders, ends, border, isMarked, cells, endAt, positionOf, isSecond}
+use Rattle.words.specs.declared.family.Family.the-variants.{Round as round, Square as square}
+use Rattle.words.specs.Word.{sameFamily, Letter}
+use Rattle.drawing.specs.Drawing.{Drawing, Kind, borders, ends, border, isMarked, cells, endAt, positionOf, isSecond}
 use Rattle.drawing.specs.Checks.{PassesSix, Crossing, markCount}
 use Rattle.drawing.proofs.Ends.{border-below, count-borders}
 use Rattle.tours.specs.Tour.{MeetsAll}
@@ -30,9 +31,11 @@ use Rattle.tours.proofs.Theorems.{passes-meets, marks-at-least}
 use Rattle.format.specs.Bytes.{mapBytes}
 use Rattle.format.specs.Pack.{wordOf, packedBytes}
 use Rattle.format.proofs.Encode.{map-bytes-same}
-use Rattle.survey.specs.Lent.{lent, Blank, Kept}
-use Rattle.touring.specs.Working.{Outside, Tours, Clean, Charted, Crosses, endIn, borderIn, met}
-use Rattle.writing.specs.Writing.{wordAt, Legible, Sized}
+use Rattle.drawing.specs.Laid.{lent}
+use Rattle.checking.specs.Lent.{Blank, Kept}
+use Rattle.touring.specs.Working.{Outside, Zeroed, Tours, Clean, Told, Charted, Crosses, tourIn, borderIn, met}
+use Rattle.writing.specs.Writing.{wordAt, chartBytes, Legible, Sized}
+use Rattle.writing.proofs.Filling.{round-is}
 
 meets-once : (D : Drawing) → MeetsAll D → Permutes (ends D) (endAt D)
 meets-once D M =
@@ -63,7 +66,7 @@ test-back false = refl
 
 pub record Chart (D : Drawing) (w : List ℕ) : Type 0 where
   pub room : 3 * ends D ≤ length w
-  pub at : (p : ℕ) → p < ends D → endIn w p ≡ endAt D p
+  pub at : (p : ℕ) → p < ends D → tourIn w p ≡ endAt D p
   pub second : (p : ℕ) → p < ends D → getD w (ends D + p) 0 ≡ pick (isSecond D p) 1 0
 
 module _ (ts ms : List ℕ) (s : ℕ) (six : PassesSix (lent ts ms s)) where
@@ -89,42 +92,41 @@ module _ (ts ms : List ℕ) (s : ℕ) (six : PassesSix (lent ts ms s)) where
             zero = λ e l. O .after (2 * (2 * length ms) + e) (omega (arith, half)) ∙ B .zero (2 * (2 * length ms) + e) (omega (arith, half));
           }
 
-      module _ (w2 : List ℕ) (F : (p : ℕ) → p < 2 * length ms → getD w2 (2 * length ms + p) 0 ≡ pick (met (endIn w1) p) 1 0)
-          (P : Outside (2 * length ms) (3 * (2 * length ms)) w1 w2) where
+      module _ (w2 : List ℕ) (F : Told (2 * length ms) w1 w2) where
         pub chart-made : Chart (lent ts ms s) w2
         unfolding ends borders
         chart-made =
             record {
-              room = omega (arith, B .room, O .same-length, P .same-length, half);
-              at = λ p l. P .before p l ∙ T .at p l;
+              room = omega (arith, B .room, O .same-length, F .outside .same-length, half);
+              at = λ p l. F .outside .before p l ∙ T .at p l;
               second = λ p l.
-                  F p l
-                  ∙ ap (λ t. pick t 1 0) (met-same (endIn w1) (endAt D) p (λ q k. T .at q (omega arith)) ∙ second-met D p);
+                  F .second p l
+                  ∙ ap (λ t. pick t 1 0) (met-same (tourIn w1) (endAt D) p (λ q k. T .at q (omega arith)) ∙ second-met D p);
             }
 
-        pub chart-kept-all : (w3 : List ℕ) → Outside (2 * (2 * length ms)) (3 * (2 * length ms)) w2 w3 → Kept (6 * length ms) w0 w3
+        pub chart-kept-all : (w3 : List ℕ) → Zeroed (2 * (2 * length ms)) (3 * (2 * length ms)) w2 w3 → Kept (6 * length ms) w0 w3
         chart-kept-all w3 Q =
             record {
-              same-length = Q .same-length ∙ P .same-length ∙ O .same-length;
+              same-length = Q .outside .same-length ∙ F .outside .same-length ∙ O .same-length;
               rest = λ i l.
-                  Q .after i (omega arith) ∙ P .after i (omega arith) ∙ O .after i (omega (arith, half));
+                  Q .outside .after i (omega arith) ∙ F .outside .after i (omega arith) ∙ O .after i (omega (arith, half));
             }
 
   module _ (w : List ℕ) (C : Chart (lent ts ms s) w) where
-    at-end : (p : ℕ) → p < 2 * length ms → endIn w p ≡ endAt D p
+    at-end : (p : ℕ) → p < 2 * length ms → tourIn w p ≡ endAt D p
     unfolding ends borders
     at-end p l = C .at p l
 
-    pub chart-kept : (w3 : List ℕ) → Outside (2 * (2 * length ms)) (3 * (2 * length ms)) w w3 → Chart (lent ts ms s) w3
+    pub chart-kept : (w3 : List ℕ) → Zeroed (2 * (2 * length ms)) (3 * (2 * length ms)) w w3 → Chart (lent ts ms s) w3
     unfolding ends borders
     chart-kept w3 Q =
         record {
-          room = omega (arith, C .room, Q .same-length);
-          at = λ p l. Q .before p (omega arith) ∙ C .at p l;
-          second = λ p l. Q .before (2 * length ms + p) (omega arith) ∙ C .second p l;
+          room = omega (arith, C .room, Q .outside .same-length);
+          at = λ p l. Q .outside .before p (omega arith) ∙ C .at p l;
+          second = λ p l. Q .outside .before (2 * length ms + p) (omega arith) ∙ C .second p l;
         }
 
-    once : Permutes (2 * length ms) (endIn w)
+    once : Permutes (2 * length ms) (tourIn w)
     unfolding ends borders
     once =
         let M : Permutes (ends D) (endAt D) = meets-once D (passes-meets D six) in
@@ -142,7 +144,7 @@ module _ (ts ms : List ℕ) (s : ℕ) (six : PassesSix (lent ts ms s)) where
           once = once;
           second = λ p l.
               C .second p l
-              ∙ ap (λ t. pick t 1 0) (sym (met-same (endIn w) (endAt D) p (λ q k. C .at q (omega arith)) ∙ second-met D p));
+              ∙ ap (λ t. pick t 1 0) (sym (met-same (tourIn w) (endAt D) p (λ q k. C .at q (omega arith)) ∙ second-met D p));
         }
 
     pub chart-legible : Legible ms w
@@ -161,17 +163,13 @@ module _ (ts ms : List ℕ) (s : ℕ) (six : PassesSix (lent ts ms s)) where
         ap (λ m. f m (eqb (getD w (2 * length ms + p) 0) 1)) (marked-same p l)
         ∙ ap (f (isMarked D (border (endAt D p)))) (ap (λ x. eqb x 1) (C .second p l) ∙ test-back (isSecond D p))
 
-    pub chart-bytes : (n : ℕ) → n ≡ cells (lent ts ms s) Cell.point → mapBytes (record { m = length ms; n = n }) (wordAt ms w) ≡ packedBytes (lent ts ms s)
+    pub chart-bytes : (n : ℕ) → n ≡ cells (lent ts ms s) Kind.point → chartBytes n ms w ≡ packedBytes (lent ts ms s)
     unfolding packedBytes wordAt wordOf ends borders
     chart-bytes n e =
         map-bytes-same (record { m = length ms; n = n }) (wordAt ms w) (wordOf D) refl letter-same
         ∙ ap (λ x. mapBytes (record { m = length ms; n = x }) (wordOf D)) e
 
-    round-is : (t : Bool) → sameFamily round (pick t round square) ≡ t
-    round-is true = refl
-    round-is false = refl
-
-    pub chart-sized : (n : ℕ) → n ≡ cells (lent ts ms s) Cell.point → Sized n ms w
+    pub chart-sized : (n : ℕ) → n ≡ cells (lent ts ms s) Kind.point → Sized n ms w
     unfolding wordAt ends borders markCount
     chart-sized n e =
         let least = marks-at-least D (six .range) (six .entries) (six .joins) in
@@ -192,12 +190,12 @@ module _ (ts ms : List ℕ) (s : ℕ) (six : PassesSix (lent ts ms s)) where
     unfolding isMarked
     unmarked-from e f = eqb-false (getD ms e 0) 1 f
 
-    pub crossing-to : (a b : ℕ) → Crosses ms (2 * length ms) (endIn w) a b → Crossing (lent ts ms s) a b
+    pub crossing-to : (a b : ℕ) → Crosses ms (2 * length ms) (tourIn w) a b → Crossing (lent ts ms s) a b
     unfolding ends borders
     crossing-to a b X =
         let here : (p x : ℕ) → p < 2 * length ms → borderIn w p ≡ x → border (endAt D p) ≡ x = λ p x l e. ap border (sym (at-end p l)) ∙ e in
         let below : (p x : ℕ) → p < 2 * length ms → borderIn w p ≡ x → x < length ms
-        = λ p x l e. rw (← e) (border-below (length ms) (endIn w p) (once .below p l)) in
+        = λ p x l e. rw (← e) (border-below (length ms) (tourIn w p) (once .below p l)) in
         record {
           first-border = below (X .p) a (omega (arith, X .p-q, X .q-r, X .r-s, X .s-end)) (X .at-p);
           second-border = below (X .s) b (X .s-end) (X .at-s);
@@ -221,7 +219,7 @@ module _ (ts ms : List ℕ) (s : ℕ) (six : PassesSix (lent ts ms s)) where
               };
         }
 
-    pub crossing-from : (a b : ℕ) → Crossing (lent ts ms s) a b → Crosses ms (2 * length ms) (endIn w) a b
+    pub crossing-from : (a b : ℕ) → Crossing (lent ts ms s) a b → Crosses ms (2 * length ms) (tourIn w) a b
     unfolding ends borders
     crossing-from a b Y =
         let X = Y .alternate in

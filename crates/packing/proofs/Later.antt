@@ -1,5 +1,6 @@
 -- Checks 4 to 7: which refusal comes first, and what packing answers with it.
 --
+-- carries-..       == what each reply carries
 -- later-4 .. later-none == the first of 4 to 7 that applies
 -- declines         == an answer by the number of a check
 -- passes, fails    == what a test says that was computed and negated
@@ -7,35 +8,57 @@
 -- checked-4, checked-5, checked-6, checked-six == what the checks 4 to 6 found
 -- finish-pair, finish-none == what check 7 found
 -- Assumes nothing.
-use mathlib.Core.Path.{_≡_, sym, ap, _∙_}
-use mathlib.Core.Logic.{inl, inr}
+use mathlib.Core.Path.{_≡_, refl, sym, ap, _∙_}
+use mathlib.Core.Logic.{_≢_, inl, inr}
 use mathlib.Core.Bool.{Bool, true, false, not}
-use mathlib.Core.List.{List, _++_}
+use mathlib.Core.List.{List, []}
 use Prim.Native.Nat.{ℕ, suc, _*_, _<_, _≤_}
 use native.Mathlib.Omega.{arith}
 use borrow.Author.Tests.{not-true, not-false, le-ltb}
-use lib.ListN.{length, getD, drop}
+use lib.ListN.{length, getD}
+use Rattle.count.specs.Below.{Decides}
 use Rattle.count.proofs.Logic.{true-or-false}
-use Rattle.drawing.specs.Drawing.{Drawing, Cell, cells}
+use Rattle.drawing.specs.Drawing.{Drawing, Kind, cells}
 use Rattle.drawing.specs.Checks.{LengthsFit, InRange, PassesSix, Crossing, CrossingPair, distinct, joined, fewMarks, crosses, markCount}
-use Rattle.drawing.specs.Session.{answer}
+use Rattle.drawing.specs.Session.{answer, refused, numberOf}
 use Rattle.drawing.proofs.Checks.{distinct-decides, few-decides}
 use Rattle.drawing.proofs.Labels.{joined-decides}
 use Rattle.drawing.proofs.Crossing.{crosses-decides}
 use Rattle.drawing.proofs.Ends.{turn-permutes}
-use Rattle.format.specs.Bytes.{mapBytes}
 use Rattle.format.specs.Open.{afterRefusal}
 use Rattle.format.specs.Pack.{packedBytes}
-use Rattle.survey.specs.Lent.{lent, Answers, Ranged, Turns, Kept}
-use Rattle.survey.proofs.Laws.{ranged-from, turns-from}
+use Rattle.drawing.specs.Laid.{lent, laid}
+use Rattle.checking.specs.Lent.{pointsIn, Ranged, Differ, Turns, Kept}
+use Rattle.checking.proofs.Laws.{ranged-from, turns-from, distinct-is, points-are}
+use Rattle.packing.specs.declared.answers.Packed.{Packed}
 use Rattle.packing.specs.declared.answers.Packed.the-variants as the-case
 use Rattle.crossing.specs.declared.find.Found.{Found}
 use Rattle.crossing.specs.declared.find.Found.the-variants as the-found
-use Rattle.packing.specs.Answers.{lengthOf, written, laterRefusal, laterOf, Packs}
+use Rattle.packing.specs.Answers.{packedMeans, lengthOf, Carries, written, laterRefusal, laterOf, PacksLater}
 use Rattle.crossing.specs.Finding.{Finds}
-use Rattle.touring.specs.Working.{endIn}
-use Rattle.writing.specs.Writing.{wordAt}
+use Rattle.touring.specs.Working.{tourIn}
+use Rattle.writing.specs.Writing.{chartBytes}
 use Rattle.packing.proofs.Charting.{Chart, chart-bytes, crossing-to, crossing-from}
+
+-- ---- what a reply carries
+pub number-not : (k : ℕ) → k ≢ 7 → numberOf {A = ℕ} (refused k) ≢ 7
+unfolding numberOf
+number-not k d = d
+
+pub carries-none : (D : Drawing) (r : Packed) → numberOf (packedMeans r .says) ≢ 7 → packedMeans r .carried ≡ [] → Carries D (packedMeans r)
+carries-none D r d e = record { pair = λ s. absurd (d s); none = λ _. e }
+
+carries-length : (D : Drawing) (l : ℕ) → Carries D (packedMeans (the-case.Length l))
+unfolding numberOf
+carries-length D l = carries-none D (the-case.Length l) (omega arith) refl
+
+carries-pair : (D : Drawing) (a b : ℕ) → CrossingPair D a b → Carries D (packedMeans (the-case.Crossing a b))
+unfolding numberOf
+carries-pair D a b P =
+    record {
+      pair = λ _. record { smaller = a; larger = b; both = refl; crossing = P };
+      none = λ d. absurd (d refl);
+    }
 
 module _ (D : Drawing) where
   later-4 : distinct D ≡ false → laterRefusal D ≡ 4
@@ -66,10 +89,14 @@ module _ (D : Drawing) where
   later-is k e = ap (λ j. afterRefusal j (answer (packedBytes D))) e
 
   -- with a number that is not 0, and not 7
-  pub declines : (k : ℕ) (old : List ℕ) → k < 6 → laterRefusal D ≡ suc k → Packs D (the-case.Declined (suc k)) old old
+  pub declines : (k : ℕ) (old : List ℕ) → k < 6 → laterRefusal D ≡ suc k → PacksLater D (packedMeans (the-case.Declined (suc k))) old old
   declines k old l e =
       let a = later-is (suc k) e in
-      record { means = sym (ap lengthOf a); carries = λ s. omega arith; bytes = sym (ap (λ x. written x old) a) }
+      record {
+        answers = sym (ap lengthOf a);
+        carries = carries-none D (the-case.Declined (suc k)) (number-not (suc k) (omega arith)) refl;
+        output = sym (ap (λ x. written x old) a);
+      }
 
 -- a test r that was computed, and the test t that it computes
 module _ (r t : Bool) (e : r ≡ t) where
@@ -93,32 +120,32 @@ module _ (ts ms : List ℕ) (s : ℕ) (F : LengthsFit (lent ts ms s)) (I : InRan
   pub checked-ranged : Ranged ts
   checked-ranged = ranged-from ts ms s F I
 
-  module _ (r : Bool) (p : Answers distinct ts r) where
-    pub checked-4 : not r ≡ true → (old : List ℕ) → Packs (lent ts ms s) (the-case.Declined 4) old old
-    checked-4 h old = declines D 3 old (omega arith) (later-4 D (fails r (distinct D) (p ms s (F .half)) h))
+  module _ (r : Bool) (p : Decides r (Differ ts)) where
+    pub checked-4 : not r ≡ true → (old : List ℕ) → PacksLater (lent ts ms s) (packedMeans (the-case.Declined 4)) old old
+    checked-4 h old = declines D 3 old (omega arith) (later-4 D (fails r (distinct D) (distinct-is ts ms s (F .half) r p) h))
 
     module _ (h : not r ≡ false) where
       differ : distinct D ≡ true
-      differ = passes r (distinct D) (p ms s (F .half)) h
+      differ = passes r (distinct D) (distinct-is ts ms s (F .half) r p) h
 
       pub checked-turns : Turns ts
       checked-turns = turns-from ts ms s F I (distinct-decides D .sound differ)
 
       module _ (q : Bool) (j : (s : ℕ) → q ≡ joined (lent ts ms s)) where
-        pub checked-5 : not q ≡ true → (old : List ℕ) → Packs (lent ts ms s) (the-case.Declined 5) old old
+        pub checked-5 : not q ≡ true → (old : List ℕ) → PacksLater (lent ts ms s) (packedMeans (the-case.Declined 5)) old old
         checked-5 k old = declines D 4 old (omega arith) (later-5 D differ (fails q (joined D) (j s) k))
 
-        module _ (k : not q ≡ false) (n : ℕ) (N : Answers (λ D. cells D Cell.point) ts n) (m : ℕ) (M : (ts : List ℕ) (s : ℕ) → m ≡ markCount (lent ts ms s)) where
+        module _ (k : not q ≡ false) (n : ℕ) (N : n ≡ pointsIn ts) (m : ℕ) (M : (ts : List ℕ) (s : ℕ) → m ≡ markCount (lent ts ms s)) where
           joins : joined D ≡ true
           joins = passes q (joined D) (j s) k
 
-          pub checked-points : n ≡ cells (lent ts ms s) Cell.point
-          checked-points = N ms s (F .half)
+          pub checked-points : n ≡ cells (lent ts ms s) Kind.point
+          checked-points = N ∙ points-are ts ms s (F .half)
 
-          pub checked-6 : n ≤ m → (old : List ℕ) → Packs (lent ts ms s) (the-case.Declined 6) old old
+          pub checked-6 : n ≤ m → (old : List ℕ) → PacksLater (lent ts ms s) (packedMeans (the-case.Declined 6)) old old
           unfolding fewMarks
           checked-6 l old =
-              declines D 5 old (omega arith) (later-6 D differ joins (le-ltb (markCount D) (cells D Cell.point) (omega (arith, checked-points, M ts s))))
+              declines D 5 old (omega arith) (later-6 D differ joins (le-ltb (markCount D) (cells D Kind.point) (omega (arith, checked-points, M ts s))))
 
           pub checked-six : m < n → PassesSix (lent ts ms s)
           checked-six l =
@@ -146,10 +173,10 @@ module _ (ts ms : List ℕ) (s : ℕ) (six : PassesSix (lent ts ms s)) where
   few = few-decides G .complete (six .few)
 
   module _ (w : List ℕ) (C : Chart (lent ts ms s) w) where
-    pub finish-pair : (x : Found) → Finds ms (2 * length ms) (endIn w) x → (a b : ℕ) → x ≡ the-found.Pair a b
-        → (old : List ℕ) → Packs (lent ts ms s) (the-case.Crossing a b) old old
+    pub finish-pair : (x : Found) → Finds ms (2 * length ms) (tourIn w) x → (a b : ℕ) → x ≡ the-found.Pair a b
+        → (old : List ℕ) → PacksLater (lent ts ms s) (packedMeans (the-case.Crossing a b)) old old
     finish-pair x Y a b f old =
-        let X : Finds ms (2 * length ms) (endIn w) (the-found.Pair a b) = rw f at Y in
+        let X : Finds ms (2 * length ms) (tourIn w) (the-found.Pair a b) = rw f at Y in
         let pair : CrossingPair G a b =
         record {
           smaller = X .0;
@@ -158,15 +185,14 @@ module _ (ts ms : List ℕ) (s : ℕ) (six : PassesSix (lent ts ms s)) where
         let t : crosses G ≡ true =
         elim (pair .alternates) [ inl x ↦ crosses-decides G .complete (a, b, x) | inr x ↦ crosses-decides G .complete (b, a, x) ] in
         let e = later-is G 7 (later-7 G four five few t) in
-        record { means = sym (ap lengthOf e); carries = pair; bytes = sym (ap (λ x. written x old) e) }
+        record { answers = sym (ap lengthOf e); carries = carries-pair G a b pair; output = sym (ap (λ x. written x old) e) }
 
-    pub finish-none : (x : Found) → Finds ms (2 * length ms) (endIn w) x → x ≡ the-found.Nothing → (n : ℕ) → n ≡ cells (lent ts ms s) Cell.point
+    pub finish-none : (x : Found) → Finds ms (2 * length ms) (tourIn w) x → x ≡ the-found.Nothing → (n : ℕ) → n ≡ cells (lent ts ms s) Kind.point
         → (v : List ℕ) → Chart (lent ts ms s) v → (r : ℕ) (old new : List ℕ)
-        → r ≡ length (mapBytes (record { m = length ms; n = n }) (wordAt ms v))
-        → new ≡ mapBytes (record { m = length ms; n = n }) (wordAt ms v) ++ drop (length (mapBytes (record { m = length ms; n = n }) (wordAt ms v))) old
-        → Packs (lent ts ms s) (the-case.Length r) old new
+        → r ≡ length (chartBytes n ms v) → new ≡ laid (chartBytes n ms v) old
+        → PacksLater (lent ts ms s) (packedMeans (the-case.Length r)) old new
     finish-none x Y f n e v K r old new p q =
-        let X : Finds ms (2 * length ms) (endIn w) the-found.Nothing = rw f at Y in
+        let X : Finds ms (2 * length ms) (tourIn w) the-found.Nothing = rw f at Y in
         let t : crosses G ≡ false =
         elim (true-or-false (crosses G)) [
           | inl c ↦ (let y = crosses-decides G .sound c in absurd (X (y .0) (y .1) (crossing-from ts ms s six w C (y .0) (y .1) (y .2))))
@@ -175,7 +201,7 @@ module _ (ts ms : List ℕ) (s : ℕ) (six : PassesSix (lent ts ms s)) where
         let a = later-is G 0 (later-none G four five few t) in
         let b = chart-bytes ts ms s six v K n e in
         record {
-          means = ap answer (p ∙ ap length b) ∙ sym (ap lengthOf a);
-          carries = tt;
-          bytes = q ∙ ap (λ x. x ++ drop (length x) old) b ∙ sym (ap (λ x. written x old) a);
+          answers = ap answer (p ∙ ap length b) ∙ sym (ap lengthOf a);
+          carries = carries-length G r;
+          output = q ∙ ap (λ x. laid x old) b ∙ sym (ap (λ x. written x old) a);
         }

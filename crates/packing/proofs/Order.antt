@@ -30,11 +30,11 @@ use Rattle.drawing.proofs.Checks.{lengths-decides, range-decides}
 use Rattle.format.specs.Bytes.{longest}
 use Rattle.format.specs.Open.{unless, afterRefusal}
 use Rattle.format.specs.Pack.{packedBytes, packRefusal, packOf}
-use Rattle.survey.specs.Lent.{lent, Blank, Kept}
-use Rattle.packing.specs.declared.answers.Packed.{Packed}
+use Rattle.drawing.specs.Laid.{lent}
+use Rattle.checking.specs.Lent.{Blank, Kept}
 use Rattle.packing.specs.declared.answers.Packed.the-variants as the-case
-use Rattle.packing.specs.Answers.{packedMeans, lengthOf, Carries, written, workLeft, laterRefusal, laterOf, Packs}
-use Rattle.packing.proofs.Later.{passes, fails}
+use Rattle.packing.specs.Answers.{Reply, packedMeans, lengthOf, written, workLeft, laterRefusal, laterOf, Packs, PacksLater}
+use Rattle.packing.proofs.Later.{passes, fails, number-not, carries-none}
 
 module _ (D : Drawing) (w o : ℕ) where
   first-1 : lengthsFit D ≡ false → packRefusal D w o ≡ 1
@@ -60,23 +60,22 @@ module _ (D : Drawing) (w o : ℕ) where
         unfolding packRefusal laterRefusal
         first-later b = rw (a, le-leb (6 * borders D) w l, le-leb longest o k, b)
 
-  abbrev Ends : Packed → List ℕ → List ℕ → List ℕ → List ℕ → Type 0
-  Ends r old new work left =
-      (packedMeans r ≡ lengthOf (packOf D w o))
-      × (Carries D r × ((new ≡ written (packOf D w o) old) × (left ≡ workLeft (packRefusal D w o) (borders D) work)))
-
   pack-is : (k : ℕ) → packRefusal D w o ≡ k → packOf D w o ≡ afterRefusal k (answer (packedBytes D))
   unfolding packOf
   pack-is k e = ap (λ j. afterRefusal j (answer (packedBytes D))) e
 
-  early : (k : ℕ) → k < 3 → packRefusal D w o ≡ suc k → (old work : List ℕ) → Ends (the-case.Declined (suc k)) old old work work
-  early k l e old work =
-      let a = pack-is (suc k) e in
-      let t : workLeft (suc k) (borders D) work ≡ work
-      = rw (lt-ltb 0 (suc k) (omega arith), le-leb (suc k) 3 (omega arith)) in (
-        sym (ap lengthOf a),
-        (λ s. omega arith, (sym (ap (λ x. written x old) a), sym (ap (λ j. workLeft j (borders D) work) e ∙ t))),
-      )
+early : (D : Drawing) (work out : List ℕ) (k : ℕ) → k < 3 → packRefusal D (length work) (length out) ≡ suc k
+    → Packs D work work out out (packedMeans (the-case.Declined (suc k)))
+early D work out k l e =
+    let a = pack-is D (length work) (length out) (suc k) e in
+    let t : workLeft (suc k) (borders D) work ≡ work
+    = rw (lt-ltb 0 (suc k) (omega arith), le-leb (suc k) 3 (omega arith)) in
+    record {
+      answers = sym (ap lengthOf a);
+      carries = carries-none D (the-case.Declined (suc k)) (number-not (suc k) (omega arith)) refl;
+      working = sym (ap (λ j. workLeft j (borders D) work) e ∙ t);
+      output = sym (ap (λ x. written x out) a);
+    }
 
 -- a number of 4 to 7, or none
 late-number : (a b c d : Bool) → ltb 0 (unless a 4 (unless b 5 (unless c 6 (unless d 7 0)))) && leb (unless a 4 (unless b 5 (unless c 6 (unless d 7 0)))) 3 ≡ false
@@ -124,43 +123,41 @@ module _ (ts ms : List ℕ) (s : ℕ) (old work : List ℕ) where
   E = lent ts ms s
 
   module _ (r : Bool) (p : (s : ℕ) → r ≡ lengthsFit (lent ts ms s)) where
-    pub pack-1 : not r ≡ true → Ends (lent ts ms s) (length work) (length old) (the-case.Declined 1) old old work work
-    pack-1 h = early E (length work) (length old) 0 (omega arith) (first-1 E (length work) (length old) (fails r (lengthsFit E) (p s) h)) old work
+    pub pack-1 : not r ≡ true → Packs (lent ts ms s) work work old old (packedMeans (the-case.Declined 1))
+    pack-1 h = early E work old 0 (omega arith) (first-1 E (length work) (length old) (fails r (lengthsFit E) (p s) h))
 
     module _ (h : not r ≡ false) where
       fit : lengthsFit E ≡ true
       fit = passes r (lengthsFit E) (p s) h
 
-      pub pack-long : length work < 6 * length ms → Ends (lent ts ms s) (length work) (length old) (the-case.Declined 2) old old work work
+      pub pack-long : length work < 6 * length ms → Packs (lent ts ms s) work work old old (packedMeans (the-case.Declined 2))
       unfolding borders
-      pack-long l = early E (length work) (length old) 1 (omega arith) (first-long E (length work) (length old) fit l) old work
+      pack-long l = early E work old 1 (omega arith) (first-long E (length work) (length old) fit l)
 
       module _ (l : 6 * length ms ≤ length work) where
-        pub pack-short : length old < longest → Ends (lent ts ms s) (length work) (length old) (the-case.Declined 2) old old work work
+        pub pack-short : length old < longest → Packs (lent ts ms s) work work old old (packedMeans (the-case.Declined 2))
         unfolding borders
-        pack-short k = early E (length work) (length old) 1 (omega arith) (first-short E (length work) (length old) fit l k) old work
+        pack-short k = early E work old 1 (omega arith) (first-short E (length work) (length old) fit l k)
 
         module _ (k : longest ≤ length old) (q : Bool) (g : q ≡ inRange (lent ts ms s)) where
-          pub pack-3 : not q ≡ true → Ends (lent ts ms s) (length work) (length old) (the-case.Declined 3) old old work work
+          pub pack-3 : not q ≡ true → Packs (lent ts ms s) work work old old (packedMeans (the-case.Declined 3))
           unfolding borders
-          pack-3 b = early E (length work) (length old) 2 (omega arith) (first-3 E (length work) (length old) fit l k (fails q (inRange E) g b)) old work
+          pack-3 b = early E work old 2 (omega arith) (first-3 E (length work) (length old) fit l k (fails q (inRange E) g b))
 
           module _ (b : not q ≡ false) where
             pub pack-done : (u v x : List ℕ) → u ≡ cleared (6 * length ms) work → Kept (6 * length ms) u v → x ≡ cleared (6 * length ms) v
-                → (a : Packed) (new : List ℕ) → Packs (lent ts ms s) a old new
-                → Ends (lent ts ms s) (length work) (length old) a old new work x
+                → (a : Reply) (new : List ℕ) → PacksLater (lent ts ms s) a old new → Packs (lent ts ms s) work x old new a
             unfolding borders laterOf packOf
             pack-done u v x e K f a new P =
                 let later : packRefusal E (length work) (length old) ≡ laterRefusal E
                 = first-later E (length work) (length old) fit l k (passes q (inRange E) g b) in
-                let same : packOf E (length work) (length old) ≡ laterOf E = ap (λ j. afterRefusal j (answer (packedBytes E))) later in (
-                  P .means ∙ sym (ap lengthOf same),
-                  (
-                    P .carries,
-                    (
-                      P .bytes ∙ sym (ap (λ y. written y old) same),
-                      f ∙ cleared-again (6 * length ms) work v (rw e at K)
-                          ∙ sym (ap (λ j. workLeft j (length ms) work) later ∙ late-left E (length ms) work),
-                    ),
-                  ),
-                )
+                let same : packOf E (length work) (length old) ≡ laterOf E = ap (λ j. afterRefusal j (answer (packedBytes E))) later in
+                record {
+                  answers = P .answers ∙ sym (ap lengthOf same);
+                  carries = P .carries;
+                  working =
+                      f
+                      ∙ cleared-again (6 * length ms) work v (rw e at K)
+                      ∙ sym (ap (λ j. workLeft j (length ms) work) later ∙ late-left E (length ms) work);
+                  output = P .output ∙ sym (ap (λ y. written y old) same);
+                }

@@ -1,27 +1,23 @@
 // Packing: checks 1 to 7 in the order of document 01's table, then the map.
 use crate::answers::Packed;
 use crossing::Found;
+use format::LONGEST;
 ghost use mathlib.Core.Path.{_≡_};
 ghost use Prim.Native.Nat.{_*_, _≤_};
 ghost use lib.ListN.{length};
-ghost use Rattle.drawing.specs.Drawing.{cells, borders, Cell};
+ghost use Rattle.drawing.specs.Drawing.{cells, Kind};
 ghost use Rattle.drawing.specs.Checks.{LengthsFit, InRange, PassesSix};
+ghost use Rattle.drawing.specs.Laid.{lent};
 ghost use Rattle.format.specs.Bytes.{longest};
-ghost use Rattle.format.specs.Pack.{packRefusal, packOf};
-ghost use Rattle.survey.specs.Lent.{lent, Blank, Kept};
-ghost use Rattle.packing.specs.Answers.{packedMeans, lengthOf, Carries, written, workLeft, Packs};
-
-// The length of the longest map.
-const LONGEST: usize = 1029;
+ghost use Rattle.checking.specs.Lent.{Blank, Kept};
+ghost use Rattle.packing.specs.Answers.{packedMeans, Packs, PacksLater};
 
 // Packs a drawing into `out`. Where a check declines, `out` stays as it was.
 pub fn pack(turning: &[u16], marks: &[u8], start: usize, work: &mut [u16], out: &mut [u8]) -> Packed
-    ensures { λ r. ⌜ packedMeans r ≡ lengthOf (packOf (lent (now (turning .entry)) (now (marks .entry)) start) (length (now (work .entry))) (length (now (out .entry)))) ⌝ }
-    ensures { λ r. ⌜ Carries (lent (now (turning .entry)) (now (marks .entry)) start) r ⌝ }
-    ensures { λ _. ⌜ now (out .exit) ≡ written (packOf (lent (now (turning .entry)) (now (marks .entry)) start) (length (now (work .entry))) (length (now (out .entry)))) (now (out .entry)) ⌝ }
-    ensures { λ _. ⌜ now (work .exit) ≡ workLeft (packRefusal (lent (now (turning .entry)) (now (marks .entry)) start) (length (now (work .entry))) (length (now (out .entry)))) (borders (lent (now (turning .entry)) (now (marks .entry)) start)) (now (work .entry)) ⌝ }
+    ensures { λ r. ⌜ Packs (lent (now (turning .entry)) (now (marks .entry)) start)
+        (now (work .entry)) (now (work .exit)) (now (out .entry)) (now (out .exit)) (packedMeans r) ⌝ }
 {
-    if !survey::lengths_fit(turning, marks) {
+    if !checking::lengths_fit(turning, marks) {
         return Packed::Declined(1);
     }
     let k = 6 * marks.len();
@@ -31,7 +27,7 @@ pub fn pack(turning: &[u16], marks: &[u8], start: usize, work: &mut [u16], out: 
     if out.len() < LONGEST {
         return Packed::Declined(2);
     }
-    if !survey::in_range(turning, marks, start) {
+    if !checking::in_range(turning, marks, start) {
         return Packed::Declined(3);
     }
     bits::clear(work, k);
@@ -42,18 +38,22 @@ pub fn pack(turning: &[u16], marks: &[u8], start: usize, work: &mut [u16], out: 
 
 // Checks 4 to 6, and the rest.
 fn checked(turning: &[u16], marks: &[u8], start: usize, work: &mut [u16], out: &mut [u8]) -> Packed
-    requires { ⌜ LengthsFit (lent (now turning) (now marks) start) × InRange (lent (now turning) (now marks) start) × Blank (3 * length (now turning)) (now work) × (longest ≤ length (now out)) ⌝ }
-    ensures { λ r. ⌜ Packs (lent (now (turning .entry)) (now (marks .entry)) start) r (now (out .entry)) (now (out .exit)) ⌝ }
+    requires { ⌜ LengthsFit (lent (now turning) (now marks) start)
+        × InRange (lent (now turning) (now marks) start)
+        × Blank (3 * length (now turning)) (now work)
+        × (longest ≤ length (now out)) ⌝ }
+    ensures { λ r. ⌜ PacksLater (lent (now (turning .entry)) (now (marks .entry)) start) (packedMeans r)
+        (now (out .entry)) (now (out .exit)) ⌝ }
     ensures { λ _. ⌜ Kept (6 * length (now (marks .entry))) (now (work .entry)) (now (work .exit)) ⌝ }
 {
-    if !flagging::is_distinct(turning, work) {
+    if !checking::is_distinct(turning, work) {
         return Packed::Declined(4);
     }
-    if !linking::is_joined(turning, marks, work) {
+    if !checking::is_joined(turning, marks, work) {
         return Packed::Declined(5);
     }
-    let n = flagging::count_points(turning, work);
-    if n <= survey::count_marks(marks) {
+    let n = checking::count_points(turning, work);
+    if n <= checking::count_marks(marks) {
         return Packed::Declined(6);
     }
     finish(turning, marks, start, n, work, out)
@@ -68,8 +68,12 @@ fn finish(
     work: &mut [u16],
     out: &mut [u8],
 ) -> Packed
-    requires { ⌜ PassesSix (lent (now turning) (now marks) start) × (n ≡ cells (lent (now turning) (now marks) start) Cell.point) × Blank (3 * length (now turning)) (now work) × (longest ≤ length (now out)) ⌝ }
-    ensures { λ r. ⌜ Packs (lent (now (turning .entry)) (now (marks .entry)) start) r (now (out .entry)) (now (out .exit)) ⌝ }
+    requires { ⌜ PassesSix (lent (now turning) (now marks) start)
+        × (n ≡ cells (lent (now turning) (now marks) start) Kind.point)
+        × Blank (3 * length (now turning)) (now work)
+        × (longest ≤ length (now out)) ⌝ }
+    ensures { λ r. ⌜ PacksLater (lent (now (turning .entry)) (now (marks .entry)) start) (packedMeans r)
+        (now (out .entry)) (now (out .exit)) ⌝ }
     ensures { λ _. ⌜ Kept (6 * length (now (marks .entry))) (now (work .entry)) (now (work .exit)) ⌝ }
 {
     touring::tour(turning, marks, start, work);

@@ -3,9 +3,10 @@
 -- string-most, bytes-small == a string has at most a bit for each letter, so that a map's length fits its cell
 -- number-most    == packing has no refusal beyond 7
 -- pack-lengths   == unless it is 1, the lists of the drawing fit
--- pack-number    == a case that means packing's answer has the number of its refusal
+-- pack-number    == what packing says has the number of its refusal
 -- length-small, pair-small, pack-small == the numbers in such a case fit: a length its cell, two borders their bits
--- pack-status, pack-cell == what is returned for it, and left in the cell, is what the contract says
+-- reply-read     == what is returned for a case, with the cell, is read as its reply
+-- pack-returns   == what is returned, and left in the memory lent, is what the contract says
 -- length-value, pair-values, unpacked-value == the numbers in an answer that fits
 -- unpack-small   == m fits its cell
 -- unpack-status  == what is returned is the number of unpacking's answer
@@ -13,21 +14,24 @@
 use mathlib.Core.Path.{_≡_, refl, sym, ap, _∙_}
 use mathlib.Core.Logic.{_≢_, inl, inr}
 use mathlib.Core.Bool.{Bool, true, false, not, _&&_}
-use mathlib.Core.List.{List, _++_}
-use Prim.Native.Nat.{ℕ, zero, suc, _+_, _*_, _/_, _<_, _≤_}
+use mathlib.Core.List.{List, [], _∷_, _++_}
+use Prim.Native.Nat.{ℕ, zero, suc, _+_, _*_, _/_, _%_, _<_, _≤_}
 use native.Mathlib.Omega.{arith}
 use borrow.Author.Needs.{needs}
-use lib.Dec.{leb}
+use borrow.Author.Tests.{ne-eqb}
+use lib.Dec.{eqb, leb}
 use lib.ListN.{length, length-append}
 use Rattle.count.specs.Below.{pick}
 use Rattle.count.proofs.Counts.{count-le}
 use Rattle.count.proofs.Lists.{table-length, gather-length}
 use Rattle.count.proofs.Logic.{true-or-false}
-use Rattle.words.specs.Word.{Family, round, square, sameFamily, Word}
+use Rattle.words.specs.declared.family.Family.{Family}
+use Rattle.words.specs.declared.family.Family.the-variants.{Round as round, Square as square}
+use Rattle.words.specs.Word.{sameFamily, Word}
 use Rattle.bits.specs.Strings.{bytesFor}
 use Rattle.drawing.specs.Drawing.{Drawing, borders, ends}
 use Rattle.drawing.specs.Checks.{LengthsFit, CrossingPair, lengthsFit, inRange, distinct, joined, fewMarks, crosses}
-use Rattle.drawing.specs.Session.{Answer, answer, refused, numberOf}
+use Rattle.drawing.specs.Session.{Answer, answer, refused, numberOf, valueOf}
 use Rattle.drawing.proofs.Checks.{lengths-decides}
 use Rattle.format.specs.Bytes.{sizeIn, wordIn, familyBit, closingBit, stringA, stringB, bytesOf, mapBytes}
 use Rattle.format.specs.Open.{unless, afterRefusal, openRefusal, opened}
@@ -35,12 +39,12 @@ use Rattle.format.specs.Pack.{wordOf, roomFits, packedBytes, packRefusal, packO
 use Rattle.format.proofs.Bits.{bytes-of-length}
 use Rattle.format.proofs.Passes.{opens-passes}
 use Rattle.packing.specs.declared.answers.Packed.{Packed}
-use Rattle.packing.specs.Answers.{packedMeans, lengthOf, Carries}
-use Rattle.unpack.specs.declared.answers.Unpacked.{Unpacked}
+use Rattle.packing.specs.Answers.{Reply, packedMeans, lengthOf, Carries, Packs}
+use Rattle.unpacking.specs.declared.answers.Unpacked.{Unpacked}
 use Rattle.drawing.specs.Laid.{bordersOf}
-use Rattle.unpack.specs.Answers.{unpackedMeans}
+use Rattle.unpacking.specs.Answers.{unpackedMeans}
 use Rattle.pmap.specs.Cells.{cellAfter}
-use Rattle.pmap.specs.Desk.{PackStatus, smallerIn, largerIn, returned, Small}
+use Rattle.pmap.specs.Desk.{smallerIn, largerIn, saidIn, replyIn, PackReturns, returned, Small}
 use Rattle.pmap.proofs.Given.{cell-same}
 
 -- ---- the bytes of a drawing's map
@@ -91,6 +95,28 @@ length-told : (k : ℕ) (s : List ℕ) (l : ℕ) → answer l ≡ lengthOf (afte
 length-told zero s l e = cc
 length-told (suc k) s l e = let z : _≡_ {A = ℕ} 0 1 = cc in absurd (omega arith)
 
+no-refusal-0 : (k : ℕ) (s : List ℕ) → refused 0 ≢ lengthOf (afterRefusal k (answer s))
+no-refusal-0 zero s e = let z : _≡_ {A = ℕ} 0 1 = cc in omega arith
+no-refusal-0 (suc k) s e = let z : 0 ≡ suc k = cc in omega arith
+
+said-number : (k l : ℕ) → numberOf (saidIn k l) ≡ k
+unfolding numberOf
+said-number zero l = refl
+said-number (suc k) l = refl
+
+-- 7 with its pair, as it is read
+seven-read : (a b r : ℕ) → r ≡ 7 + 256 * a + 1048576 * b → a < 4096 → b < 4096 → (r % 256 ≡ 7) × (smallerIn r ≡ a) × (largerIn r ≡ b)
+seven-read a b r h k l =
+    let x : a ≡ smallerIn r = omega arith in
+    let y : b ≡ largerIn r = omega arith in
+    (omega arith, sym x, sym y)
+
+-- a number that is not 0 and not 7, as it is read
+read-refused : (k : ℕ) (xs : List ℕ) → k ≢ 0 → k ≢ 7 → (l : ℕ)
+    → _≡_ {A = Reply} (record { says = saidIn k l; carried = pick (eqb k 7) xs [] }) (record { says = refused k; carried = [] })
+read-refused zero xs d s l = absurd (d refl)
+read-refused (suc k) xs d s l = rw (ne-eqb (suc k) 7 s)
+
 module _ (D : Drawing) (w o : ℕ) where
   number-most : packRefusal D w o ≤ 7
   unfolding packRefusal
@@ -110,15 +136,22 @@ module _ (D : Drawing) (w o : ℕ) where
         | inr f ↦ absurd (n (rw f))
       ]
 
-  -- a case p that means what packing answers
-  pack-number : (p : Packed) → packedMeans p ≡ lengthOf (packOf D w o) → numberOf (packedMeans p) ≡ packRefusal D w o
+  refusal-told : numberOf (packOf D w o) ≡ packRefusal D w o
   unfolding packOf
-  pack-number p e = ap numberOf e ∙ number-told (packRefusal D w o) (packedBytes D)
+  refusal-told = sym (number-length (afterRefusal (packRefusal D w o) (answer (packedBytes D)))) ∙ number-told (packRefusal D w o) (packedBytes D)
+
+  -- what packing says
+  pack-number : (a : Answer ℕ) → a ≡ lengthOf (packOf D w o) → numberOf a ≡ packRefusal D w o
+  pack-number a e = ap numberOf e ∙ number-length (packOf D w o) ∙ refusal-told
+
+  never-0 : refused 0 ≢ lengthOf (packOf D w o)
+  unfolding packOf
+  never-0 = no-refusal-0 (packRefusal D w o) (packedBytes D)
 
   length-small : (l : ℕ) → answer l ≡ lengthOf (packOf D w o) → l < 65536
   unfolding packOf numberOf
   length-small l e =
-      let n = pack-number (Packed.Length l) e in
+      let n = pack-number (answer l) e in
       omega (
         arith,
         length-told (packRefusal D w o) (packedBytes D) l e,
@@ -128,36 +161,66 @@ module _ (D : Drawing) (w o : ℕ) where
   pair-small : (a b : ℕ) → refused 7 ≡ lengthOf (packOf D w o) → CrossingPair D a b → (a < 4096) × (b < 4096)
   unfolding numberOf borders
   pair-small a b e P =
-      let n = pack-number (Packed.Crossing a b) e in
+      let n = pack-number (refused 7) e in
       let fit = pack-lengths (λ one. omega arith) in
       elim (P .alternates) [ inl x ↦ (omega arith, omega arith) | inr x ↦ (omega arith, omega arith) ]
 
-  pub pack-small : (p : Packed) → packedMeans p ≡ lengthOf (packOf D w o) → Carries D p → Small p
-  pack-small (Packed.Length l) e c = length-small l e
-  pack-small (Packed.Crossing a b) e P = pair-small a b e P
-  pack-small (Packed.Declined k) e c = tt
-
-  status : (p : Packed) (r : ℕ) → r ≡ returned p → Small p → Carries D p → numberOf (packedMeans p) ≤ 7
-      → numberOf (packedMeans p) ≡ numberOf (packOf D w o) → PackStatus D (packOf D w o) r
+  -- the pair that the case itself has
+  carried-pair : (a b : ℕ) → Carries D (packedMeans (Packed.Crossing a b)) → CrossingPair D a b
   unfolding numberOf
-  status (Packed.Length l) r h small c most n =
-      record { low = omega arith; pair = λ seven. absurd (omega arith); none = λ _. omega arith }
-  status (Packed.Crossing a b) r h small P most n =
-      let x : a ≡ smallerIn r = omega arith in
-      let y : b ≡ largerIn r = omega arith in
-      record { low = omega arith; pair = λ seven. rw (← x, ← y) P; none = λ other. absurd (other (sym n)) }
-  status (Packed.Declined k) r h small c most n =
-      record { low = omega arith; pair = λ seven. absurd (c (n ∙ seven)); none = λ _. omega arith }
+  carried-pair a b C =
+      let P = C .pair refl in
+      let e : a ∷ b ∷ [] ≡ P .smaller ∷ P .larger ∷ [] = P .both in
+      let x : a ≡ P .smaller = cc in
+      let y : b ≡ P .larger = cc in
+      rw (x, y) (P .crossing)
 
-  pub pack-status : (p : Packed) (r : ℕ) → r ≡ returned p → packedMeans p ≡ lengthOf (packOf D w o) → Carries D p
-      → PackStatus D (packOf D w o) r
-  pack-status p r h e c =
-      let n = pack-number p e in
-      status p r h (pack-small p e c) c (omega (arith, number-most)) (ap numberOf e ∙ number-length (packOf D w o))
+  small : (p : Packed) → packedMeans p .says ≡ lengthOf (packOf D w o) → Carries D (packedMeans p) → Small p
+  small (Packed.Length l) e C = length-small l e
+  small (Packed.Crossing a b) e C = pair-small a b e (carried-pair a b C)
+  small (Packed.Declined k) e C = tt
 
-  pub pack-cell : (p : Packed) (x old : ℕ) → x ≡ cellAfter (packedMeans p) old → packedMeans p ≡ lengthOf (packOf D w o)
-      → x ≡ cellAfter (lengthOf (packOf D w o)) old
-  pack-cell p x old h e = cell-same x old (packedMeans p) (lengthOf (packOf D w o)) h e
+  -- 7 does not come without its pair
+  seven-not : (k : ℕ) → Carries D (packedMeans (Packed.Declined k)) → k ≢ 7
+  unfolding numberOf
+  seven-not k C e = let two : _≡_ {A = ℕ} 0 2 = ap length (C .pair e .both) in omega arith
+
+  reply-read : (p : Packed) → packedMeans p .says ≡ lengthOf (packOf D w o) → Carries D (packedMeans p)
+      → (r l l' : ℕ) → r ≡ returned p → l' ≡ cellAfter (packedMeans p .says) l → replyIn r l' ≡ packedMeans p
+  unfolding cellAfter numberOf
+  reply-read (Packed.Length x) e C r l l' h g = rw (h, g)
+  reply-read (Packed.Crossing a b) e C r l l' h g =
+      let s = pair-small a b e (carried-pair a b C) in
+      let v = seven-read a b r h (s .0) (s .1) in
+      rw (v .0, v .1, v .2)
+  reply-read (Packed.Declined k) e C r l l' h g =
+      let n = pack-number (refused k) e in
+      let low : r % 256 ≡ k = omega (arith, number-most) in
+      rw low (read-refused k (smallerIn r ∷ largerIn r ∷ []) (λ z. never-0 (ap refused (sym z) ∙ e)) (seven-not k C) l')
+
+  rest-none : (p : Packed) → packedMeans p .says ≡ lengthOf (packOf D w o) → (r : ℕ) → r ≡ returned p → r % 256 ≢ 7 → r / 256 ≡ 0
+  unfolding numberOf
+  rest-none (Packed.Length x) e r h d = omega arith
+  rest-none (Packed.Crossing a b) e r h d = absurd (d (omega arith))
+  rest-none (Packed.Declined k) e r h d = let n = pack-number (refused k) e in omega (arith, number-most)
+
+  low-is : (r l : ℕ) (p : Reply) → replyIn r l ≡ p → r % 256 ≡ numberOf (p .says)
+  low-is r l p e = sym (said-number (r % 256) l) ∙ ap (λ q. numberOf (q .says)) e
+
+module _ (D : Drawing) (work work' out out' : List ℕ) (p : Packed) (P : Packs D work work' out out' (packedMeans p)) where
+  pub pack-small : Small p
+  pack-small = small D (length work) (length out) p (P .answers) (P .carries)
+
+  pub pack-returns : (l l' r : ℕ) → r ≡ returned p → l' ≡ cellAfter (packedMeans p .says) l → PackReturns D work work' out out' l l' r
+  pack-returns l l' r h g =
+      let A = packOf D (length work) (length out) in
+      let e : replyIn r l' ≡ packedMeans p = reply-read D (length work) (length out) p (P .answers) (P .carries) r l l' h g in
+      record {
+        low = low-is D (length work) (length out) r l' (packedMeans p) e ∙ ap numberOf (P .answers) ∙ number-length A;
+        none = rest-none D (length work) (length out) p (P .answers) r h;
+        packs = rw e P;
+        cell = cell-same l' l (packedMeans p .says) (lengthOf A) g (P .answers);
+      }
 
 -- ---- the numbers in an answer of packing that is small
 module _ (p : Packed) (small : Small p) where
@@ -174,14 +237,14 @@ number-borders (answer D) = refl
 number-borders (refused k) = refl
 
 borders-small : (o : ℕ) (t : Bool) (D : Drawing) → (o ≡ 0 → borders D < 65536)
-    → cellAfter (bordersOf (afterRefusal o (pick t (answer D) (refused 16)))) 0 < 65536
-unfolding cellAfter
+    → valueOf (bordersOf (afterRefusal o (pick t (answer D) (refused 16)))) < 65536
+unfolding valueOf
 borders-small zero true D h = h refl
 borders-small zero false D h = omega arith
 borders-small (suc o) t D h = omega arith
 
 module _ (s : List ℕ) (t k : ℕ) where
-  pub unpack-small : (a : Answer ℕ) → a ≡ bordersOf (unpackOf s t k) → cellAfter a 0 < 65536
+  pub unpack-small : (a : Answer ℕ) → a ≡ bordersOf (unpackOf s t k) → valueOf a < 65536
   unfolding unpackOf opened drawingOf wordIn borders
   unpack-small a e =
       rw e
@@ -191,8 +254,8 @@ module _ (s : List ℕ) (t k : ℕ) where
   pub unpack-status : (r : ℕ) (a : Answer ℕ) → r ≡ numberOf a → a ≡ bordersOf (unpackOf s t k) → r ≡ numberOf (unpackOf s t k)
   unpack-status r a h e = h ∙ ap numberOf e ∙ number-borders (unpackOf s t k)
 
-pub unpacked-value : (a : Unpacked) (m : ℕ) → a ≡ Unpacked.Borders m → cellAfter (unpackedMeans a) 0 < 65536 → m < 65536
-unfolding cellAfter
+pub unpacked-value : (a : Unpacked) (m : ℕ) → a ≡ Unpacked.Borders m → valueOf (unpackedMeans a) < 65536 → m < 65536
+unfolding valueOf
 unpacked-value a m e h = rw e at h
 
 pub ruleset desk-values = (length-value, pair-values, unpacked-value, needs)

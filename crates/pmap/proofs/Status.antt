@@ -11,8 +11,9 @@ use native.Mathlib.Omega.{arith}
 use lib.Dec.{ltb, leb}
 use Rattle.count.specs.Below.{pick}
 use Rattle.words.specs.Brackets.{first}
-use Rattle.words.specs.Word.{round, seen}
-use Rattle.drawing.specs.Drawing.{Drawing, Cell}
+use Rattle.words.specs.declared.family.Family.the-variants.{Round as round}
+use Rattle.words.specs.Word.{seen}
+use Rattle.drawing.specs.Drawing.{Drawing, Kind}
 use Rattle.drawing.specs.Session.{Answer, answer, refused, numberOf, Call}
 use Rattle.drawing.specs.Book.{noSuch}
 use Rattle.format.specs.Bytes.{sizeIn, wordIn}
@@ -37,9 +38,9 @@ own-tells : {A : Type 0} (t : Bool) (x : A) (k : ℕ) → (k ≡ 0 → ⊥) → 
 own-tells true x k m = answer-tells x
 own-tells false x k m = refused-tells k m
 
-no-such-some : (c : Cell) → noSuch c ≡ 0 → ⊥
-no-such-some Cell.point e = omega arith
-no-such-some Cell.area e = omega arith
+no-such-some : (c : Kind) → noSuch c ≡ 0 → ⊥
+no-such-some Kind.point e = omega arith
+no-such-some Kind.area e = omega arith
 
 module _ (s : List ℕ) where
   pub open-tells : Tells (openOf s)
@@ -52,24 +53,24 @@ module _ (s : List ℕ) where
       opened-tells (openRefusal s) (atPlace (wordIn s) c i)
       (own-tells (ltb 0 i && leb i (wordIn s .size)) (moveIn (wordIn s) c (pred i)) 13 (λ e. omega arith))
 
-  own-cell : (c : Cell) (k x : ℕ) → Tells (afterRefusal (openRefusal s) (pick (isNumber (sizeIn s) c k) (answer x) (refused (noSuch c))))
+  own-cell : (c : Kind) (k x : ℕ) → Tells (afterRefusal (openRefusal s) (pick (isNumber (sizeIn s) c k) (answer x) (refused (noSuch c))))
   own-cell c k x =
       opened-tells (openRefusal s) (pick (isNumber (sizeIn s) c k) (answer x) (refused (noSuch c)))
       (own-tells (isNumber (sizeIn s) c k) x (noSuch c) (no-such-some c))
 
-  pub first-tells : (c : Cell) (k : ℕ) → Tells (firstOf s c k)
+  pub first-tells : (c : Kind) (k : ℕ) → Tells (firstOf s c k)
   unfolding firstOf opened
   first-tells c k = own-cell c k (firstIn (wordIn s) c k)
 
-  pub size-tells : (c : Cell) (k : ℕ) → Tells (sizeOf s c k)
+  pub size-tells : (c : Kind) (k : ℕ) → Tells (sizeOf s c k)
   unfolding sizeOf opened
   size-tells c k = own-cell c k (placesIn (wordIn s) c k)
 
   pub joining-tells : (u v : ℕ) → Tells (joiningOf s u v)
   unfolding joiningOf opened
   joining-tells u v =
-      let t : Bool = isNumber (sizeIn s) Cell.point u && isNumber (sizeIn s) Cell.point v in
-      let x : ℕ = joinIn (wordIn s) v (placesIn (wordIn s) Cell.point u) (first (seen round (wordIn s)) (wordIn s .size) u) in
+      let t : Bool = isNumber (sizeIn s) Kind.point u && isNumber (sizeIn s) Kind.point v in
+      let x : ℕ = joinIn (wordIn s) v (placesIn (wordIn s) Kind.point u) (first (seen round (wordIn s)) (wordIn s .size) u) in
       opened-tells (openRefusal s) (pick t (answer x) (refused 14)) (own-tells t x 14 (λ e. omega arith))
 
   pub unpack-tells : (t k : ℕ) → Tells (unpackOf s t k)

@@ -1,9 +1,9 @@
 // Calls about areas.
 use crate::cells::give_count;
 use crate::cells::give_place;
-use map::Area;
+use opening::Area;
 ghost use mathlib.Core.Path.{_≡_};
-ghost use Rattle.drawing.specs.Drawing.{Cell};
+ghost use Rattle.drawing.specs.Drawing.{Kind};
 ghost use Rattle.drawing.specs.Session.{numberOf};
 ghost use Rattle.format.specs.Calls.{firstOf, sizeOf, neighboursOf};
 ghost use Rattle.pmap.specs.Cells.{cellAfter};
@@ -11,8 +11,8 @@ ghost use Rattle.pmap.specs.Cells.{cellAfter};
 // The area's first place, or 0 if m = 0.
 #[no_mangle]
 pub extern "C" fn pmap_area_first(map: &[u8], area: usize, out: &mut u16) -> u8
-    ensures { λ r. ⌜ r ≡ numberOf (firstOf (now (map .entry)) Cell.area area) ⌝ }
-    ensures { λ _. ⌜ now (out .exit) ≡ cellAfter (firstOf (now (map .entry)) Cell.area area) (now (out .entry)) ⌝ }
+    ensures { λ r. ⌜ r ≡ numberOf (firstOf (now (map .entry)) Kind.area area) ⌝ }
+    ensures { λ _. ⌜ now (out .exit) ≡ cellAfter (firstOf (now (map .entry)) Kind.area area) (now (out .entry)) ⌝ }
 {
     give_place(map::area_first(map, Area(area)), out)
 }
@@ -20,8 +20,8 @@ pub extern "C" fn pmap_area_first(map: &[u8], area: usize, out: &mut u16) -> u8
 // How many places the area has.
 #[no_mangle]
 pub extern "C" fn pmap_sides(map: &[u8], area: usize, out: &mut u16) -> u8
-    ensures { λ r. ⌜ r ≡ numberOf (sizeOf (now (map .entry)) Cell.area area) ⌝ }
-    ensures { λ _. ⌜ now (out .exit) ≡ cellAfter (sizeOf (now (map .entry)) Cell.area area) (now (out .entry)) ⌝ }
+    ensures { λ r. ⌜ r ≡ numberOf (sizeOf (now (map .entry)) Kind.area area) ⌝ }
+    ensures { λ _. ⌜ now (out .exit) ≡ cellAfter (sizeOf (now (map .entry)) Kind.area area) (now (out .entry)) ⌝ }
 {
     give_count(map::sides(map, Area(area)), out)
 }

@@ -1,16 +1,16 @@
 // From an answer to a status and a cell.
-use map::AreaAnswer;
-use map::Count;
-use map::PlaceAnswer;
-use map::PointAnswer;
+use opening::AreaAnswer;
+use opening::Count;
+use opening::PlaceAnswer;
+use opening::PointAnswer;
 ghost use mathlib.Core.Path.{_≡_};
 ghost use Prim.Native.Nat.{_<_};
-ghost use Rattle.drawing.specs.Session.{numberOf};
-ghost use Rattle.calls.specs.Answers.{placeMeans, pointMeans, areaMeans, countMeans};
+ghost use Rattle.drawing.specs.Session.{numberOf, valueOf};
+ghost use Rattle.opening.specs.Answers.{placeMeans, pointMeans, areaMeans, countMeans};
 ghost use Rattle.pmap.specs.Cells.{cellAfter};
 
 pub fn give_place(a: PlaceAnswer, out: &mut u16) -> u8
-    requires { ⌜ cellAfter (placeMeans a) 0 < 65536 ⌝ }
+    requires { ⌜ valueOf (placeMeans a) < 65536 ⌝ }
     ensures { λ r. ⌜ r ≡ numberOf (placeMeans a) ⌝ }
     ensures { λ _. ⌜ now (out .exit) ≡ cellAfter (placeMeans a) (now (out .entry)) ⌝ }
 {
@@ -25,7 +25,7 @@ pub fn give_place(a: PlaceAnswer, out: &mut u16) -> u8
 }
 
 pub fn give_point(a: PointAnswer, out: &mut u16) -> u8
-    requires { ⌜ cellAfter (pointMeans a) 0 < 65536 ⌝ }
+    requires { ⌜ valueOf (pointMeans a) < 65536 ⌝ }
     ensures { λ r. ⌜ r ≡ numberOf (pointMeans a) ⌝ }
     ensures { λ _. ⌜ now (out .exit) ≡ cellAfter (pointMeans a) (now (out .entry)) ⌝ }
 {
@@ -40,7 +40,7 @@ pub fn give_point(a: PointAnswer, out: &mut u16) -> u8
 }
 
 pub fn give_area(a: AreaAnswer, out: &mut u16) -> u8
-    requires { ⌜ cellAfter (areaMeans a) 0 < 65536 ⌝ }
+    requires { ⌜ valueOf (areaMeans a) < 65536 ⌝ }
     ensures { λ r. ⌜ r ≡ numberOf (areaMeans a) ⌝ }
     ensures { λ _. ⌜ now (out .exit) ≡ cellAfter (areaMeans a) (now (out .entry)) ⌝ }
 {
@@ -55,7 +55,7 @@ pub fn give_area(a: AreaAnswer, out: &mut u16) -> u8
 }
 
 pub fn give_count(a: Count, out: &mut u16) -> u8
-    requires { ⌜ cellAfter (countMeans a) 0 < 65536 ⌝ }
+    requires { ⌜ valueOf (countMeans a) < 65536 ⌝ }
     ensures { λ r. ⌜ r ≡ numberOf (countMeans a) ⌝ }
     ensures { λ _. ⌜ now (out .exit) ≡ cellAfter (countMeans a) (now (out .entry)) ⌝ }
 {

@@ -1,18 +1,16 @@
 // Packing and unpacking, with the drawing lent as lists.
 use packing::Packed;
-use unpack::Unpacked;
+use unpacking::Unpacked;
 ghost use mathlib.Core.Path.{_≡_};
 ghost use Prim.Native.Nat.{_+_, _*_, _<_};
 ghost use lib.ListN.{length as size};
-ghost use Rattle.drawing.specs.Drawing.{borders};
-ghost use Rattle.drawing.specs.Session.{numberOf};
-ghost use Rattle.format.specs.Pack.{packRefusal, packOf, unpackOf};
-ghost use Rattle.survey.specs.Lent.{lent};
-ghost use Rattle.packing.specs.Answers.{packedMeans, lengthOf, written, workLeft};
-ghost use Rattle.drawing.specs.Laid.{bordersOf, turningAfter, marksAfter};
-ghost use Rattle.unpack.specs.Answers.{unpackedMeans};
+ghost use Rattle.drawing.specs.Session.{numberOf, valueOf};
+ghost use Rattle.drawing.specs.Laid.{lent, bordersOf, turningAfter, marksAfter};
+ghost use Rattle.format.specs.Pack.{unpackOf};
+ghost use Rattle.packing.specs.Answers.{packedMeans};
+ghost use Rattle.unpacking.specs.Answers.{unpackedMeans};
 ghost use Rattle.pmap.specs.Cells.{cellAfter};
-ghost use Rattle.pmap.specs.Desk.{PackStatus, returned, Small};
+ghost use Rattle.pmap.specs.Desk.{PackReturns, returned, Small};
 
 // The map of a drawing goes to `out`, its length to a cell. With 7 the pair stands in the bits above the status.
 #[no_mangle]
@@ -24,18 +22,34 @@ pub extern "C" fn pmap_pack(
     out: &mut [u8],
     length: &mut u16,
 ) -> u32
-    ensures { λ r. ⌜ PackStatus (lent (now (turning .entry)) (now (marks .entry)) start) (packOf (lent (now (turning .entry)) (now (marks .entry)) start) (size (now (work .entry))) (size (now (out .entry)))) r ⌝ }
-    ensures { λ _. ⌜ now (out .exit) ≡ written (packOf (lent (now (turning .entry)) (now (marks .entry)) start) (size (now (work .entry))) (size (now (out .entry)))) (now (out .entry)) ⌝ }
-    ensures { λ _. ⌜ now (work .exit) ≡ workLeft (packRefusal (lent (now (turning .entry)) (now (marks .entry)) start) (size (now (work .entry))) (size (now (out .entry)))) (borders (lent (now (turning .entry)) (now (marks .entry)) start)) (now (work .entry)) ⌝ }
-    ensures { λ _. ⌜ now (length .exit) ≡ cellAfter (lengthOf (packOf (lent (now (turning .entry)) (now (marks .entry)) start) (size (now (work .entry))) (size (now (out .entry))))) (now (length .entry)) ⌝ }
+    ensures { λ r. ⌜ PackReturns (lent (now (turning .entry)) (now (marks .entry)) start) (now (work .entry)) (now (work .exit))
+        (now (out .entry)) (now (out .exit)) (now (length .entry)) (now (length .exit)) r ⌝ }
 {
     give_length(packing::pack(turning, marks, start, work, out), length)
 }
 
+// The drawing of a map goes to the two lists, m to a cell.
+#[no_mangle]
+pub extern "C" fn pmap_unpack(map: &[u8], turning: &mut [u16], marks: &mut [u8], m: &mut u16) -> u8
+    ensures { λ r. ⌜ r ≡ numberOf (unpackOf (now (map .entry)) (size (now (turning .entry))) (size (now (marks .entry)))) ⌝ }
+    ensures { λ _. ⌜ now (turning .exit)
+        ≡ turningAfter (unpackOf (now (map .entry)) (size (now (turning .entry))) (size (now (marks .entry))))
+        (now (turning .entry)) ⌝ }
+    ensures { λ _. ⌜ now (marks .exit)
+        ≡ marksAfter (unpackOf (now (map .entry)) (size (now (turning .entry))) (size (now (marks .entry))))
+        (now (marks .entry)) ⌝ }
+    ensures { λ _. ⌜ now (m .exit)
+        ≡ cellAfter (bordersOf (unpackOf (now (map .entry)) (size (now (turning .entry))) (size (now (marks .entry)))))
+        (now (m .entry)) ⌝ }
+{
+    give_borders(unpacking::unpack(map, turning, marks), m)
+}
+
+// The length goes to the cell, and what is returned is the status with what 7 carries.
 fn give_length(p: Packed, length: &mut u16) -> u32
     requires { ⌜ Small p ⌝ }
     ensures { λ r. ⌜ r ≡ returned p ⌝ }
-    ensures { λ _. ⌜ now (length .exit) ≡ cellAfter (packedMeans p) (now (length .entry)) ⌝ }
+    ensures { λ _. ⌜ now (length .exit) ≡ cellAfter (packedMeans p .says) (now (length .entry)) ⌝ }
 {
     match p {
         Packed::Length(l) => {
@@ -55,19 +69,8 @@ fn seven(smaller: usize, larger: usize) -> u32
     7 + 256 * (smaller as u32) + 1048576 * (larger as u32)
 }
 
-// The drawing of a map goes to the two lists, m to a cell.
-#[no_mangle]
-pub extern "C" fn pmap_unpack(map: &[u8], turning: &mut [u16], marks: &mut [u8], m: &mut u16) -> u8
-    ensures { λ r. ⌜ r ≡ numberOf (unpackOf (now (map .entry)) (size (now (turning .entry))) (size (now (marks .entry)))) ⌝ }
-    ensures { λ _. ⌜ now (turning .exit) ≡ turningAfter (unpackOf (now (map .entry)) (size (now (turning .entry))) (size (now (marks .entry)))) (now (turning .entry)) ⌝ }
-    ensures { λ _. ⌜ now (marks .exit) ≡ marksAfter (unpackOf (now (map .entry)) (size (now (turning .entry))) (size (now (marks .entry)))) (now (marks .entry)) ⌝ }
-    ensures { λ _. ⌜ now (m .exit) ≡ cellAfter (bordersOf (unpackOf (now (map .entry)) (size (now (turning .entry))) (size (now (marks .entry))))) (now (m .entry)) ⌝ }
-{
-    give_borders(unpack::unpack(map, turning, marks), m)
-}
-
 fn give_borders(a: Unpacked, m: &mut u16) -> u8
-    requires { ⌜ cellAfter (unpackedMeans a) 0 < 65536 ⌝ }
+    requires { ⌜ valueOf (unpackedMeans a) < 65536 ⌝ }
     ensures { λ r. ⌜ r ≡ numberOf (unpackedMeans a) ⌝ }
     ensures { λ _. ⌜ now (m .exit) ≡ cellAfter (unpackedMeans a) (now (m .entry)) ⌝ }
 {

@@ -14,22 +14,21 @@
 // that 7 carries. Numbers come in as usize, so that nothing is cut: place 65,537 is declined, not taken for 1. No
 // function asks anything of its caller.
 //
-// The functions only pass on what the crates `card`, `map`, `packing` and `unpack` answer. The definitions that the
-// contracts cite are those of the crate `format`, with `packing` and `unpack` for the lists that are lent to them;
+// The functions only pass on what the crates `opening`, `map`, `packing` and `unpacking` answer. The definitions that the
+// contracts cite are those of the crate `format`, with `packing` and `unpacking` for the lists that are lent to them;
 // specs/Cells.antt says what a cell holds after a call, specs/Desk.antt what pmap_pack returns.
 mod areas;
 mod cells;
 mod desk;
-mod opening;
 mod places;
 mod points;
+mod size;
 
 pub use areas::pmap_area_first;
 pub use areas::pmap_neighbours;
 pub use areas::pmap_sides;
 pub use desk::pmap_pack;
 pub use desk::pmap_unpack;
-pub use opening::pmap_open;
 pub use places::pmap_along;
 pub use places::pmap_area;
 pub use places::pmap_cross;
@@ -39,3 +38,4 @@ pub use places::pmap_turn_back;
 pub use points::pmap_degree;
 pub use points::pmap_joining;
 pub use points::pmap_point_first;
+pub use size::pmap_open;

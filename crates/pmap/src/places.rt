@@ -2,7 +2,7 @@
 use crate::cells::give_area;
 use crate::cells::give_place;
 use crate::cells::give_point;
-use map::Place;
+use opening::Place;
 ghost use mathlib.Core.Path.{_≡_};
 ghost use Rattle.drawing.specs.Session.{numberOf};
 ghost use Rattle.format.specs.Calls.{crossOf, turnOf, turnBackOf, alongOf, pointOf, areaOf};

@@ -1,9 +1,9 @@
 // Calls about points.
 use crate::cells::give_count;
 use crate::cells::give_place;
-use map::Point;
+use opening::Point;
 ghost use mathlib.Core.Path.{_≡_};
-ghost use Rattle.drawing.specs.Drawing.{Cell};
+ghost use Rattle.drawing.specs.Drawing.{Kind};
 ghost use Rattle.drawing.specs.Session.{numberOf};
 ghost use Rattle.format.specs.Calls.{firstOf, sizeOf, joiningOf};
 ghost use Rattle.pmap.specs.Cells.{cellAfter};
@@ -11,8 +11,8 @@ ghost use Rattle.pmap.specs.Cells.{cellAfter};
 // The point's first place, or 0 if m = 0.
 #[no_mangle]
 pub extern "C" fn pmap_point_first(map: &[u8], point: usize, out: &mut u16) -> u8
-    ensures { λ r. ⌜ r ≡ numberOf (firstOf (now (map .entry)) Cell.point point) ⌝ }
-    ensures { λ _. ⌜ now (out .exit) ≡ cellAfter (firstOf (now (map .entry)) Cell.point point) (now (out .entry)) ⌝ }
+    ensures { λ r. ⌜ r ≡ numberOf (firstOf (now (map .entry)) Kind.point point) ⌝ }
+    ensures { λ _. ⌜ now (out .exit) ≡ cellAfter (firstOf (now (map .entry)) Kind.point point) (now (out .entry)) ⌝ }
 {
     give_place(map::point_first(map, Point(point)), out)
 }
@@ -20,8 +20,8 @@ pub extern "C" fn pmap_point_first(map: &[u8], point: usize, out: &mut u16) -> u
 // How many places the point has.
 #[no_mangle]
 pub extern "C" fn pmap_degree(map: &[u8], point: usize, out: &mut u16) -> u8
-    ensures { λ r. ⌜ r ≡ numberOf (sizeOf (now (map .entry)) Cell.point point) ⌝ }
-    ensures { λ _. ⌜ now (out .exit) ≡ cellAfter (sizeOf (now (map .entry)) Cell.point point) (now (out .entry)) ⌝ }
+    ensures { λ r. ⌜ r ≡ numberOf (sizeOf (now (map .entry)) Kind.point point) ⌝ }
+    ensures { λ _. ⌜ now (out .exit) ≡ cellAfter (sizeOf (now (map .entry)) Kind.point point) (now (out .entry)) ⌝ }
 {
     give_count(map::degree(map, Point(point)), out)
 }

@@ -15,7 +15,7 @@ use lib.Seq.{take-at}
 use Rattle.drawing.specs.Drawing.{Drawing, borders}
 use Rattle.drawing.specs.Laid.{bordersOf, turningAfter, marksAfter}
 use Rattle.drawing.specs.Session.{Answer, answer, refused}
-use Rattle.survey.specs.Lent.{lent}
+use Rattle.drawing.specs.Laid.{lent}
 use Rattle.text.specs.Input.{Denotes, readText}
 use Rattle.text.specs.Listing.{refusedLine, listed, packed, placesOf}
 use Rattle.text.proofs.Exact.{text-denotes}

@@ -25,8 +25,8 @@ use Rattle.text.specs.Listing.{refusedLine, listed, packed}
 use Rattle.packing.specs.Answers.{packedMeans, lengthOf, written}
 use Rattle.packing.specs.declared.answers.Packed.{Packed}
 use Rattle.packing.specs.declared.answers.Packed.the-variants as the-case
-use Rattle.demands.proofs.Passed.{packed-opens}
-use Rattle.demands.proofs.Refusals.{pack-accepts}
+use Rattle.agreement.proofs.Passed.{packed-opens}
+use Rattle.format.proofs.Refusals.{pack-accepts}
 use Rattle.listing.specs.Printed.{printed}
 
 unless-same : (t : Bool) (k x y : ℕ) → (t ≡ true → x ≡ y) → unless t k x ≡ unless t k y
@@ -78,10 +78,10 @@ bytes-print : (s : List ℕ) → openRefusal s ≡ 0 → printed s ≡ listed (a
 unfolding printed opened
 bytes-print s o = ap (λ k. listed (afterRefusal k (answer s))) o
 
-module _ (D : Drawing) (work out : ℕ) (long : 12288 ≤ work) (wide : longest ≤ out) (r : Packed) (e : packedMeans r ≡ lengthOf (packOf D work out)) where
+module _ (D : Drawing) (work out : ℕ) (long : 12288 ≤ work) (wide : longest ≤ out) (r : Packed) (e : packedMeans r .says ≡ lengthOf (packOf D work out)) where
   pub map-mapped : (n : ℕ) (old map : List ℕ) → r ≡ the-case.Length n → map ≡ written (packOf D work out) old → Mapped D n map
   map-mapped n old map h w =
-      let A = accepted D work out n (sym (ap packedMeans h) ∙ e) in
+      let A = accepted D work out n (sym (ap (λ x. packedMeans x .says) h) ∙ e) in
       let s : map ≡ packedBytes D ++ drop (length (packedBytes D)) old = w ∙ ap (λ a. written a old) (A .bytes) in
       let b : take n map ≡ packedBytes D = ap (take n) s ∙ take-at (packedBytes D) (drop (length (packedBytes D)) old) n (sym (A .length-is)) in
       record {
@@ -94,7 +94,7 @@ module _ (D : Drawing) (work out : ℕ) (long : 12288 ≤ work) (wide : longest 
   refusal-prints k f = ap listed (sym (room-enough D work out long wide) ∙ refused-is k (packOf D work out) f)
 
   pub crossing-prints : (a b : ℕ) → r ≡ the-case.Crossing a b → listed (packed (answer D)) ≡ refusedLine 7
-  crossing-prints a b h = refusal-prints 7 (sym (ap packedMeans h) ∙ e)
+  crossing-prints a b h = refusal-prints 7 (sym (ap (λ x. packedMeans x .says) h) ∙ e)
 
   pub declined-prints : (k : ℕ) → r ≡ the-case.Declined k → listed (packed (answer D)) ≡ refusedLine k
-  declined-prints k h = refusal-prints k (sym (ap packedMeans h) ∙ e)
+  declined-prints k h = refusal-prints k (sym (ap (λ x. packedMeans x .says) h) ∙ e)

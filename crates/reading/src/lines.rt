@@ -26,22 +26,6 @@ pub fn line(text: &[u8], at: usize, e: usize) -> Row
     entries(text, next)
 }
 
-// The entries of a border's two ends and its mark: what follows its number in a line.
-fn entries(text: &[u8], at: usize) -> Row
-    ensures { λ r. ⌜ rowMeans (now (text .entry)) r ≡ readEntries (drop at (now (text .entry))) ⌝ }
-{
-    let Field::At(first, b) = field(text, at, 65535, SPACE) else {
-        return Row::Missing;
-    };
-    let Field::At(second, c) = field(text, b, 65535, SPACE) else {
-        return Row::Missing;
-    };
-    let Field::At(mark, d) = field(text, c, 255, LINE_FEED) else {
-        return Row::Missing;
-    };
-    Row::At(first as u16, second as u16, mark as u8, d)
-}
-
 // Whether the text begins with the bytes of a list.
 pub fn begins(text: &[u8], prefix: &[u8]) -> bool
     ensures { λ r. ⌜ afterPrefix (now (prefix .entry)) (now (text .entry))
@@ -58,4 +42,20 @@ pub fn begins(text: &[u8], prefix: &[u8]) -> bool
         i += 1;
     }
     true
+}
+
+// The entries of a border's two ends and its mark: what follows its number in a line.
+fn entries(text: &[u8], at: usize) -> Row
+    ensures { λ r. ⌜ rowMeans (now (text .entry)) r ≡ readEntries (drop at (now (text .entry))) ⌝ }
+{
+    let Field::At(first, b) = field(text, at, 65535, SPACE) else {
+        return Row::Missing;
+    };
+    let Field::At(second, c) = field(text, b, 65535, SPACE) else {
+        return Row::Missing;
+    };
+    let Field::At(mark, d) = field(text, c, 255, LINE_FEED) else {
+        return Row::Missing;
+    };
+    Row::At(first as u16, second as u16, mark as u8, d)
 }

@@ -3,9 +3,12 @@ use crate::answers::Parsed;
 use crate::answers::Row;
 use crate::lines::begins;
 use crate::lines::line;
+use format::MOST_BORDERS;
+use format::MOST_ENDS;
 ghost use mathlib.Core.Path.{_≡_};
 ghost use mathlib.Core.Option.{none};
 ghost use lib.ListN.{length, drop};
+ghost use Rattle.drawing.specs.Drawing.{mostBorders, mostEnds};
 ghost use Rattle.drawing.specs.Laid.{bordersOf, turningAfter, marksAfter};
 ghost use Rattle.text.specs.Input.{drawingOr17, readLines, readText};
 ghost use Rattle.reading.specs.Answers.{parsedMeans};
@@ -14,7 +17,7 @@ ghost use Rattle.reading.specs.Answers.{parsedMeans};
 const NAMES_LENGTH: usize = 25;
 
 // Writes the drawing of the text and answers m, or declines with 17.
-pub fn parse(text: &[u8], turning: &mut [u16; 4096], marks: &mut [u8; 2048]) -> Parsed
+pub fn parse(text: &[u8], turning: &mut [u16; MOST_ENDS], marks: &mut [u8; MOST_BORDERS]) -> Parsed
     ensures { λ r. ⌜ parsedMeans r ≡ bordersOf (readText (now (text .entry))) ⌝ }
     ensures { λ _. ⌜ now (turning .exit) ≡ turningAfter (readText (now (text .entry))) (now (turning .entry)) ⌝ }
     ensures { λ _. ⌜ now (marks .exit) ≡ marksAfter (readText (now (text .entry))) (now (marks .entry)) ⌝ }
@@ -31,12 +34,12 @@ pub fn parse(text: &[u8], turning: &mut [u16; 4096], marks: &mut [u8; 2048]) -> 
 
 // How many lines of borders there are from a position to the end of the text.
 fn count_lines(text: &[u8], at: usize) -> Parsed
-    ensures { λ r. ⌜ parsedMeans r ≡ bordersOf (drawingOr17 (readLines 2048 0 (drop at (now (text .entry))))) ⌝ }
+    ensures { λ r. ⌜ parsedMeans r ≡ bordersOf (drawingOr17 (readLines mostBorders 0 (drop at (now (text .entry))))) ⌝ }
 {
     let mut next = at;
     let mut e = 0;
     while next < text.len() {
-        if e == 2048 {
+        if e == MOST_BORDERS {
             return Parsed::Declined(17);
         }
         let Row::At(_, _, _, after) = line(text, next, e) else {
@@ -51,13 +54,13 @@ fn count_lines(text: &[u8], at: usize) -> Parsed
 // Writes the entries and the marks of the lines from a position to the end of the text. All of them are well formed, so
 // that no line is missing.
 fn write_lines(text: &[u8], at: usize, turning: &mut [u16], marks: &mut [u8])
-    requires { ⌜ (readLines 2048 0 (drop at (now text)) ≡ none → ⊥)
-        × (length (now turning) ≡ 4096)
-        × (length (now marks) ≡ 2048) ⌝ }
+    requires { ⌜ (readLines mostBorders 0 (drop at (now text)) ≡ none → ⊥)
+        × (length (now turning) ≡ mostEnds)
+        × (length (now marks) ≡ mostBorders) ⌝ }
     ensures { λ _. ⌜ now (turning .exit)
-        ≡ turningAfter (drawingOr17 (readLines 2048 0 (drop at (now (text .entry))))) (now (turning .entry)) ⌝ }
+        ≡ turningAfter (drawingOr17 (readLines mostBorders 0 (drop at (now (text .entry))))) (now (turning .entry)) ⌝ }
     ensures { λ _. ⌜ now (marks .exit)
-        ≡ marksAfter (drawingOr17 (readLines 2048 0 (drop at (now (text .entry))))) (now (marks .entry)) ⌝ }
+        ≡ marksAfter (drawingOr17 (readLines mostBorders 0 (drop at (now (text .entry))))) (now (marks .entry)) ⌝ }
 {
     let mut next = at;
     let mut e = 0;

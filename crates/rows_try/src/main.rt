@@ -1,15 +1,15 @@
 // Runs the examples of document 01's table, rows 1 to 17, and writes for each its number and the number that came: they are
 // the same in every line. Then the drawings of (a) to (c), which are accepted: 0.
-use card::Opened;
 use libc::STDOUT_FILENO;
-use map::Area;
-use map::Count;
-use map::Place;
-use map::PlaceAnswer;
-use map::Point;
+use opening::Area;
+use opening::Count;
+use opening::Opened;
+use opening::Place;
+use opening::PlaceAnswer;
+use opening::Point;
 use packing::Packed;
 use reading::Parsed;
-use unpack::Unpacked;
+use unpacking::Unpacked;
 
 fn main() {
     pack_rows();
@@ -85,7 +85,7 @@ fn pack_into(turning: &[u16], marks: &[u8], work: &mut [u16], out: &mut [u8]) ->
 }
 
 fn open(map: &[u8]) -> u8 {
-    match card::open(map) {
+    match opening::open(map) {
         Opened::Size(m, n) => 0,
         Opened::Declined(k) => k,
     }
@@ -108,7 +108,7 @@ fn of_count(a: Count) -> u8 {
 fn unpack_short(map: &[u8]) -> u8 {
     let mut turning = [0u16; 1];
     let mut marks = [0u8; 1];
-    match unpack::unpack(map, &mut turning, &mut marks) {
+    match unpacking::unpack(map, &mut turning, &mut marks) {
         Unpacked::Borders(m) => 0,
         Unpacked::Declined(k) => k,
     }

@@ -19,7 +19,7 @@ use Prim.Native.Nat.{ℕ, zero, suc, _+_, _*_, _≤_, _<_}
 use native.Mathlib.Omega.{arith}
 use lib.ListN.{length, getD, drop}
 use lib.Seq.{getD-drop, drop-drop}
-use Rattle.drawing.specs.Drawing.{Drawing, borders, ends, turn}
+use Rattle.drawing.specs.Drawing.{mostBorders, Drawing, borders, ends, turn}
 use Rattle.drawing.specs.Session.{answer, refused}
 use Rattle.text.specs.Input.{names, borderLine, borderLines, drawingText, Denotes, afterPrefix, with, Line, readLine, Rows, addRow, readLines, drawingOr17, readText}
 use Rattle.text.proofs.Lines.{lineThen, IsLine, read-line, line-read, some-with, read-prefix, prefix-read}
@@ -151,31 +151,31 @@ rows-read (suc n) e (c ∷ s) t q =
 drawing-same : (D E : Drawing) → D .turning ≡ E .turning → D .marks ≡ E .marks → D .start ≡ E .start → D ≡ E
 drawing-same D E t m s = λ i. record { turning = t i; marks = m i; start = s i }
 
-pub text-is : (s : List ℕ) → readText s ≡ drawingOr17 (with (afterPrefix names s) (λ r. readLines 2048 0 r))
+pub text-is : (s : List ℕ) → readText s ≡ drawingOr17 (with (afterPrefix names s) (λ r. readLines mostBorders 0 r))
 unfolding readText
 text-is s = refl
 
 pub reads-text : (s : List ℕ) (D : Drawing) → Denotes s D → readText s ≡ answer D
 unfolding borders ends turn
 reads-text s D d =
-    let W : Within 2048 (D .turning) (D .marks) = record { half = d .half; few = d .few; entries = d .entries; small = d .marks } in
+    let W : Within mostBorders (D .turning) (D .marks) = record { half = d .half; few = d .few; entries = d .entries; small = d .marks } in
     text-is s
     ∙ rw (
       d .text,
       drawing-lines D,
       read-prefix names (rowLines 0 (D .turning) (D .marks)),
-      read-rows 2048 0 (D .turning) (D .marks) (omega arith) W,
+      read-rows mostBorders 0 (D .turning) (D .marks) (omega arith) W,
     )
     (ap answer (drawing-same (record { turning = D .turning; marks = D .marks; start = 0 }) D refl refl (sym (d .start))))
 
 pub text-denotes : (s : List ℕ) (D : Drawing) → readText s ≡ answer D → Denotes s D
 unfolding borders ends turn
 text-denotes s D q =
-    some-drawing (with (afterPrefix names s) (λ r. readLines 2048 0 r)) D (sym (text-is s) ∙ q)
+    some-drawing (with (afterPrefix names s) (λ r. readLines mostBorders 0 r)) D (sym (text-is s) ∙ q)
     (λ t read made.
     some-with (afterPrefix names s) _ t read
     (λ r named rows.
-    let R = rows-read 2048 0 r t rows in
+    let R = rows-read mostBorders 0 r t rows in
     let E : Drawing = record { turning = t .turning; marks = t .marks; start = 0 } in
     rw (← made)
     (record {
@@ -199,6 +199,6 @@ only-17 (some t) k q = let z : _≡_ {A = ℕ} 0 1 = cc in absurd (omega arith)
 
 pub refuses-17 : (s : List ℕ) (k : ℕ) → readText s ≡ refused k → (k ≡ 17) × ((D : Drawing) → Denotes s D → ⊥)
 refuses-17 s k q = (
-  only-17 (with (afterPrefix names s) (λ r. readLines 2048 0 r)) k (sym (text-is s) ∙ q),
+  only-17 (with (afterPrefix names s) (λ r. readLines mostBorders 0 r)) k (sym (text-is s) ∙ q),
   λ D d. let p = reads-text s D d in let z : _≡_ {A = ℕ} 0 1 = cc in omega arith,
 )

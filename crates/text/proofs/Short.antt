@@ -1,4 +1,5 @@
--- How long a text may be: a text that is read has at most 43,033 bytes, the line of names and 2,048 lines of 21 bytes.
+-- How long a text may be: at most 43,033 bytes, the line of names and 2,048 lines of at most 21 bytes. That is a bound; the longest text that is
+-- read has 41,923 bytes, since not every border number has four digits.
 --
 -- decimal-length  == a number below the (n + 1)-th power of ten has at most n + 1 digits
 -- rows-short      == the lines of k borders have at most 21 k bytes
@@ -16,7 +17,7 @@ use native.Mathlib.Omega.{arith}
 use lib.ListN.{length, getD, take, drop, length-append}
 use lib.Seq.{getD-drop, take-all, length-take-le}
 use Rattle.count.proofs.Logic.{lt-or-ge}
-use Rattle.drawing.specs.Drawing.{Drawing, borders, ends, turn}
+use Rattle.drawing.specs.Drawing.{mostBorders, Drawing, borders, ends, turn}
 use Rattle.drawing.specs.Session.{answer, refused}
 use Rattle.text.specs.Decimal.{decimal}
 use Rattle.text.specs.Input.{names, afterPrefix, with, Rows, readLines, drawingOr17, readText}
@@ -44,7 +45,7 @@ line-length e a b v t he ha hb hv =
     let dv = decimal-length 2 v (omega arith) in
     simp length-append (omega arith)
 
-pub rows-short : (e : ℕ) (T M : List ℕ) → e + length M ≤ 2048 → ((h : ℕ) → h < 2 * length M → getD T h 0 ≤ 65535)
+pub rows-short : (e : ℕ) (T M : List ℕ) → e + length M ≤ mostBorders → ((h : ℕ) → h < 2 * length M → getD T h 0 ≤ 65535)
     → ((i : ℕ) → i < length M → getD M i 0 ≤ 255) → length (rowLines e T M) ≤ 21 * length M
 unfolding rowLines
 rows-short e T [] b ts ms = omega arith
@@ -73,7 +74,7 @@ read-or-17 (some t) = inr (record { turning = t .turning; marks = t .marks; star
 
 pub long-17 : (s : List ℕ) → 43034 ≤ length s → readText s ≡ refused 17
 long-17 s h =
-    elim (read-or-17 (with (afterPrefix names s) (λ r. readLines 2048 0 r))) [
+    elim (read-or-17 (with (afterPrefix names s) (λ r. readLines mostBorders 0 r))) [
       | inl q ↦ text-is s ∙ q
       | inr d ↦ let short = text-short s (d .0) (text-is s ∙ d .1) in absurd (omega arith)
     ]

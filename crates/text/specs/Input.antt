@@ -12,7 +12,7 @@ use Prim.Native.Nat.{ℕ, zero, suc, _+_, _*_, _≤_, _<_}
 use lib.ListN.{length, getD}
 use lib.Dec.{eqb, leb}
 use Rattle.count.specs.Below.{pick}
-use Rattle.drawing.specs.Drawing.{Drawing, borders, ends, turn}
+use Rattle.drawing.specs.Drawing.{mostBorders, Drawing, borders, ends, turn}
 use Rattle.drawing.specs.Session.{Answer, answer, refused}
 use Rattle.text.specs.Decimal.{codes, decimal, Read, readNumber}
 
@@ -49,7 +49,7 @@ drawingText D = names ++ borderLines D 0 (borders D)
 pub record Denotes (s : List ℕ) (D : Drawing) : Type 0 where
   pub text : s ≡ drawingText D
   pub half : length (D .turning) ≡ 2 * length (D .marks)
-  pub few : borders D ≤ 2048
+  pub few : borders D ≤ mostBorders
   pub entries : (h : ℕ) → h < ends D → turn D h ≤ 65535
   pub marks : (e : ℕ) → e < borders D → getD (D .marks) e 0 ≤ 255
   pub start : D .start ≡ 0
@@ -83,11 +83,11 @@ unfoldable pub readLine : ℕ → List ℕ → Option Line
 unfolding readField
 readLine e s =
     with (readField 65535 space s)
-    (λ n. pick (eqb (n .value) e)
-    (with (readField 65535 space (n .rest))
+    (λ x. pick (eqb (x .value) e)
+    (with (readField 65535 space (x .rest))
     (λ a. with (readField 65535 space (a .rest))
     (λ b. with (readField 255 lineFeed (b .rest))
-    (λ v. some (record { first = a .value; second = b .value; mark = v .value; rest = v .rest })))))
+    (λ c. some (record { first = a .value; second = b .value; mark = c .value; rest = c .rest })))))
     none)
 
 pub record Rows : Type 0 where
@@ -112,4 +112,4 @@ drawingOr17 (some t) = answer (record { turning = t .turning; marks = t .marks; 
 
 unfoldable pub readText : List ℕ → Answer Drawing
 unfolding afterPrefix names readLines
-readText s = drawingOr17 (with (afterPrefix names s) (λ r. readLines 2048 0 r))
+readText s = drawingOr17 (with (afterPrefix names s) (λ r. readLines mostBorders 0 r))

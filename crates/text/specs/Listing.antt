@@ -9,7 +9,9 @@ use mathlib.Core.Bool.{Bool, true, false}
 use mathlib.Core.List.{List, [], _∷_, _++_}
 use Prim.Native.Nat.{ℕ, zero, suc, _*_}
 use Rattle.count.specs.Below.{pick}
-use Rattle.words.specs.Word.{Family, round, square, Letter, Word}
+use Rattle.words.specs.declared.family.Family.{Family}
+use Rattle.words.specs.declared.family.Family.the-variants.{Round as round, Square as square}
+use Rattle.words.specs.Word.{Letter, Word}
 use Rattle.drawing.specs.Drawing.{Drawing, borders}
 use Rattle.drawing.specs.Session.{Answer, answer, refused, Call}
 use Rattle.format.specs.Bytes.{longest, wordIn}

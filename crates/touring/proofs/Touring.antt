@@ -3,7 +3,7 @@
 -- crossed-marked, crossed-below, crossed-not == the end across a marked border, or the end itself
 -- Touring ts ms s old h p w == the first p ends of the tour stand in w, and h is the next
 -- touring-..       == from one end to the next, and at the end
--- Telling n old p w == of the first p positions w says which are second, and the last third which borders were met
+-- Telling places old p w == of the first p positions w says which are second, and the last third which borders were met
 -- telling-..       == from one position to the next, and at the end
 -- Assumes nothing.
 use mathlib.Core.Path.{_≡_, refl, sym, ap, _∙_}
@@ -25,8 +25,8 @@ use Rattle.count.proofs.Logic.{same-or-not, either-left}
 use Rattle.drawing.specs.Drawing.{borders, ends, border, other, turn, isMarked, over, walk, endAt}
 use Rattle.drawing.specs.Checks.{LengthsFit, InRange}
 use Rattle.drawing.proofs.Ends.{other-below, over-yes, over-no, end-zero, end-after}
-use Rattle.survey.specs.Lent.{lent}
-use Rattle.touring.specs.Working.{Outside, Tours, Clean, endIn, borderIn, met}
+use Rattle.drawing.specs.Laid.{lent}
+use Rattle.touring.specs.Working.{Outside, Tours, Clean, Told, tourIn, borderIn, met, isMet}
 use Rattle.touring.proofs.Outside.{outside-none, outside-set}
 
 -- ---- border_in
@@ -120,12 +120,12 @@ module _ (ts ms : List ℕ) (s : ℕ) (F : LengthsFit (lent ts ms s)) (I : InRan
     touring-length = T .outside .same-length
 
 -- ---- seconds
-pub record Telling (n : ℕ) (old : List ℕ) (p : ℕ) (w : List ℕ) : Type 0 where
-  pub within : p ≤ n
-  pub room : 3 * n ≤ length w
-  pub so-far : (q : ℕ) → q < p → getD w (n + q) 0 ≡ pick (met (endIn old) q) 1 0
-  pub flags : (e : ℕ) → e < n → getD w (2 * n + e) 0 ≡ pick (any (λ q. eqb (borderIn old q) e) p) 1 0
-  pub outside : Outside n (3 * n) old w
+pub record Telling (places : ℕ) (old : List ℕ) (p : ℕ) (w : List ℕ) : Type 0 where
+  pub within : p ≤ places
+  pub room : 3 * places ≤ length w
+  pub so-far : (q : ℕ) → q < p → getD w (places + q) 0 ≡ pick (met (tourIn old) q) 1 0
+  pub flags : (e : ℕ) → e < places → getD w (2 * places + e) 0 ≡ pick (any (λ q. eqb (borderIn old q) e) p) 1 0
+  pub outside : Outside places (3 * places) old w
 
 any-zero : (P : ℕ → Bool) → any P 0 ≡ false
 unfolding any
@@ -135,32 +135,36 @@ any-more : (P : ℕ → Bool) (p : ℕ) → any P (p + 1) ≡ P p || any P p
 unfolding any
 any-more P p = rw (add-one p)
 
-module _ (n : ℕ) (old : List ℕ) (C : Clean n old) where
-  pub telling-start : Telling n old 0 old
+module _ (places : ℕ) (old : List ℕ) (C : Clean places old) where
+  pub telling-start : Telling places old 0 old
   telling-start =
       record {
         within = omega arith;
         room = C .ends .room;
         so-far = λ q l. absurd (omega arith);
         flags = λ e l. C .zero e l ∙ sym (ap (λ t. pick t 1 0) (any-zero (λ q. eqb (borderIn old q) e)));
-        outside = outside-none n (3 * n) old;
+        outside = outside-none places (3 * places) old;
       }
 
-  module _ (p : ℕ) (w : List ℕ) (T : Telling n old p w) where
+  module _ (p : ℕ) (w : List ℕ) (T : Telling places old p w) where
     pub telling-length : length w ≡ length old
     telling-length = T .outside .same-length
 
-    pub telling-all : n ≤ p → (q : ℕ) → q < n → getD w (n + q) 0 ≡ pick (met (endIn old) q) 1 0
-    telling-all l q k = T .so-far q (omega arith)
+    pub telling-all : places ≤ p → Told places old w
+    unfolding isMet
+    telling-all l =
+        let d : p ≡ places = omega (arith, T .within) in
+        record {
+          second = λ q k. T .so-far q (omega arith);
+          flags = λ e k. T .flags e k ∙ ap (λ x. pick (any (λ q. eqb (borderIn old q) e) x) 1 0) d;
+          outside = T .outside;
+        }
 
-    pub telling-outside : Outside n (3 * n) old w
-    telling-outside = T .outside
-
-    module _ (l : p < n) where
+    module _ (l : p < places) where
       pub telling-here : p < length w
       telling-here = omega (arith, T .room)
 
-      pub telling-place : n + p < length w
+      pub telling-place : places + p < length w
       telling-place = omega (arith, T .room)
 
       module _ (e : ℕ) (q : e ≡ borderIn w p) where
@@ -168,60 +172,60 @@ module _ (n : ℕ) (old : List ℕ) (C : Clean n old) where
         is-met : e ≡ borderIn old p
         is-met = q ∙ ap border (T .outside .before p l)
 
-        pub telling-border : e < n
+        pub telling-border : e < places
         unfolding border
         telling-border = omega (arith, is-met, C .ends .below p l)
 
-        pub telling-flag : 2 * n + e < length w
+        pub telling-flag : 2 * places + e < length w
         telling-flag = omega (arith, telling-border, T .room)
 
-        pub telling-sum : Fits w64 (2 * n + e)
+        pub telling-sum : Fits w64 (2 * places + e)
         telling-sum = record { fits = omega (arith, telling-border, C .ends .small) }
 
-        pub telling-scaled : Fits w64 ((2 * n + e) * 2)
+        pub telling-scaled : Fits w64 ((2 * places + e) * 2)
         telling-scaled = record { fits = omega (arith, telling-border, C .ends .small) }
 
-        pub telling-stored : (v : ℕ) → 2 * n + e < length (set w (n + p) v)
-        telling-stored v = omega (arith, telling-flag, length-set w (n + p) v)
+        pub telling-stored : (v : ℕ) → 2 * places + e < length (set w (places + p) v)
+        telling-stored v = omega (arith, telling-flag, length-set w (places + p) v)
 
-        pub telling-more : Telling n old (p + 1) (set (set w (n + p) (getD w (2 * n + e) 0)) (2 * n + e) 1)
+        pub telling-more : Telling places old (p + 1) (set (set w (places + p) (getD w (2 * places + e) 0)) (2 * places + e) 1)
         unfolding met
         telling-more =
-            let v = getD w (2 * n + e) 0 in
-            let u = set w (n + p) v in
+            let v = getD w (2 * places + e) 0 in
+            let u = set w (places + p) v in
             record {
               within = omega arith;
-              room = omega (arith, T .room, length-set w (n + p) v, length-set u (2 * n + e) 1);
+              room = omega (arith, T .room, length-set w (places + p) v, length-set u (2 * places + e) 1);
               so-far = λ i h.
-                  getD-set-other u (2 * n + e) (n + i) 1 0 (omega arith)
+                  getD-set-other u (2 * places + e) (places + i) 1 0 (omega arith)
                   ∙ elim (same-or-not i p) [
                     | inl d ↦
-                        ap (λ x. getD u (n + x) 0) d
-                        ∙ getD-set-same w (n + p) v 0 telling-place
+                        ap (λ x. getD u (places + x) 0) d
+                        ∙ getD-set-same w (places + p) v 0 telling-place
                         ∙ T .flags e telling-border
                         ∙ rw (is-met, d)
-                    | inr d ↦ getD-set-other w (n + p) (n + i) v 0 (omega arith) ∙ T .so-far i (omega arith)
+                    | inr d ↦ getD-set-other w (places + p) (places + i) v 0 (omega arith) ∙ T .so-far i (omega arith)
                   ];
               flags = λ f h.
                   let P : ℕ → Bool = λ q. eqb (borderIn old q) f in
                   elim (same-or-not f e) [
                     | inl d ↦
-                        ap (λ x. getD (set u (2 * n + e) 1) (2 * n + x) 0) d
-                        ∙ getD-set-same u (2 * n + e) 1 0 (telling-stored v)
+                        ap (λ x. getD (set u (2 * places + e) 1) (2 * places + x) 0) d
+                        ∙ getD-set-same u (2 * places + e) 1 0 (telling-stored v)
                         ∙ sym
                         (ap (λ t. pick t 1 0)
                         (any-more P p ∙ either-left (P p) (any P p) (eq-eqb (borderIn old p) f (sym (d ∙ is-met)))))
                     | inr d ↦
-                        getD-set-other u (2 * n + e) (2 * n + f) 1 0 (omega arith)
-                        ∙ getD-set-other w (n + p) (2 * n + f) v 0 (omega arith)
+                        getD-set-other u (2 * places + e) (2 * places + f) 1 0 (omega arith)
+                        ∙ getD-set-other w (places + p) (2 * places + f) v 0 (omega arith)
                         ∙ T .flags f h
                         ∙ sym
                         (ap (λ t. pick t 1 0)
                         (any-more P p ∙ ap (λ t. t || any P p) (ne-eqb (borderIn old p) f (λ x. d (sym (is-met ∙ x))))))
                   ];
               outside =
-                  outside-set n (3 * n) old u (2 * n + e) 1
-                  (outside-set n (3 * n) old w (n + p) v (T .outside) (omega arith) (omega arith))
+                  outside-set places (3 * places) old u (2 * places + e) 1
+                  (outside-set places (3 * places) old w (places + p) v (T .outside) (omega arith) (omega arith))
                   (omega arith)
                   (omega (arith, telling-border));
             }

@@ -1,14 +1,19 @@
 -- The working list: the tour in its first third, which places are second in the next, a stack in the last.
 --
+-- A third has as many entries as there are places, 2m, which are as many as the ends.
+--
 -- Outside a e old new == the lists are equally long, and equal but for the entries from a up to e
--- endIn w p        == the end that stands at position p
--- borderIn w p     == its border
--- met t p          == whether the border at position p of the tour t was met before
--- Tours D w        == the tour of D stands in the first third
--- Ends n w         == the first third has ends only, and there is room for three
--- Clean n w        == the same, and the last third is 0
--- Charted n w      == the tour that stands in w meets each of the n ends once, and the second third says which places are second
--- Crosses ms n t a b == two unmarked borders a and b alternate in the tour t
+-- Zeroed a e old new  == new is old with 0 for the entries from a up to e
+-- tourIn w p          == the end that stands at position p
+-- borderIn w p        == its border
+-- met t p             == whether the border at position p of the tour t was met before
+-- isMet t places e    == whether the tour t meets border e
+-- Tours D w           == the tour of D stands in the first third
+-- Ends places w       == the first third has ends only, and there is room for three
+-- Clean places w      == the same, and the last third is 0
+-- Told places old new == new is old, with a 1 in the second third for each second place, in the last for each border met, else 0
+-- Charted places w    == the tour that stands in w meets each end once, and the second third says which places are second
+-- Crosses ms places t a b == two unmarked borders a and b alternate in the tour t
 -- Assumes nothing.
 use mathlib.Core.Path.{_≡_}
 use mathlib.Core.Logic.{_≢_}
@@ -19,15 +24,19 @@ use lib.Dec.{eqb}
 use lib.ListN.{length, getD}
 use Rattle.count.specs.Below.{any, pick}
 use Rattle.orbits.specs.Cycles.{Permutes}
-use Rattle.drawing.specs.Drawing.{Drawing, ends, border, endAt}
+use Rattle.drawing.specs.Drawing.{mostEnds, Drawing, ends, border, endAt}
 
 pub record Outside (a e : ℕ) (old new : List ℕ) : Type 0 where
   pub same-length : length new ≡ length old
   pub before : (i : ℕ) → i < a → getD new i 0 ≡ getD old i 0
   pub after : (i : ℕ) → e ≤ i → getD new i 0 ≡ getD old i 0
 
-abbrev pub endIn : List ℕ → ℕ → ℕ
-endIn w p = getD w p 0
+pub record Zeroed (a e : ℕ) (old new : List ℕ) : Type 0 where
+  pub zero : (i : ℕ) → a ≤ i → i < e → getD new i 0 ≡ 0
+  pub outside : Outside a e old new
+
+abbrev pub tourIn : List ℕ → ℕ → ℕ
+tourIn w p = getD w p 0
 
 abbrev pub borderIn : List ℕ → ℕ → ℕ
 borderIn w p = border (getD w p 0)
@@ -36,25 +45,34 @@ unfoldable pub met : (ℕ → ℕ) → ℕ → Bool
 unfolding any border
 met t p = any (λ q. eqb (border (t q)) (border (t p))) p
 
+unfoldable pub isMet : (ℕ → ℕ) → ℕ → ℕ → Bool
+unfolding any border
+isMet t places e = any (λ p. eqb (border (t p)) e) places
+
 pub record Tours (D : Drawing) (w : List ℕ) : Type 0 where
-  pub at : (p : ℕ) → p < ends D → endIn w p ≡ endAt D p
+  pub at : (p : ℕ) → p < ends D → tourIn w p ≡ endAt D p
 
-pub record Ends (n : ℕ) (w : List ℕ) : Type 0 where
-  pub room : 3 * n ≤ length w
-  pub small : n ≤ 4096
-  pub below : (p : ℕ) → p < n → endIn w p < n
+pub record Ends (places : ℕ) (w : List ℕ) : Type 0 where
+  pub room : 3 * places ≤ length w
+  pub small : places ≤ mostEnds
+  pub below : (p : ℕ) → p < places → tourIn w p < places
 
-pub record Clean (n : ℕ) (w : List ℕ) : Type 0 where
-  pub ends : Ends n w
-  pub zero : (e : ℕ) → e < n → getD w (2 * n + e) 0 ≡ 0
+pub record Clean (places : ℕ) (w : List ℕ) : Type 0 where
+  pub ends : Ends places w
+  pub zero : (e : ℕ) → e < places → getD w (2 * places + e) 0 ≡ 0
 
-pub record Charted (n : ℕ) (w : List ℕ) : Type 0 where
-  pub room : 3 * n ≤ length w
-  pub small : n ≤ 4096
-  pub once : Permutes n (endIn w)
-  pub second : (p : ℕ) → p < n → getD w (n + p) 0 ≡ pick (met (endIn w) p) 1 0
+pub record Told (places : ℕ) (old new : List ℕ) : Type 0 where
+  pub second : (p : ℕ) → p < places → getD new (places + p) 0 ≡ pick (met (tourIn old) p) 1 0
+  pub flags : (e : ℕ) → e < places → getD new (2 * places + e) 0 ≡ pick (isMet (tourIn old) places e) 1 0
+  pub outside : Outside places (3 * places) old new
 
-pub record Crosses (ms : List ℕ) (n : ℕ) (t : ℕ → ℕ) (a b : ℕ) : Type 0 where
+pub record Charted (places : ℕ) (w : List ℕ) : Type 0 where
+  pub room : 3 * places ≤ length w
+  pub small : places ≤ mostEnds
+  pub once : Permutes places (tourIn w)
+  pub second : (p : ℕ) → p < places → getD w (places + p) 0 ≡ pick (met (tourIn w) p) 1 0
+
+pub record Crosses (ms : List ℕ) (places : ℕ) (t : ℕ → ℕ) (a b : ℕ) : Type 0 where
   pub two : a ≢ b
   pub first-unmarked : getD ms a 0 ≢ 1
   pub second-unmarked : getD ms b 0 ≢ 1
@@ -65,7 +83,7 @@ pub record Crosses (ms : List ℕ) (n : ℕ) (t : ℕ → ℕ) (a b : ℕ) : Typ
   pub p-q : p < q
   pub q-r : q < r
   pub r-s : r < s
-  pub s-end : s < n
+  pub s-end : s < places
   pub at-p : border (t p) ≡ a
   pub at-q : border (t q) ≡ b
   pub at-r : border (t r) ≡ a

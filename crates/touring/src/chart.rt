@@ -2,17 +2,18 @@
 use crate::work::border_in;
 ghost use mathlib.Core.Path.{_≡_};
 ghost use mathlib.Core.List.{List};
-ghost use Prim.Native.Nat.{ℕ, _+_, _*_, _<_, _≤_};
-ghost use lib.ListN.{length, getD};
-ghost use Rattle.count.specs.Below.{pick};
+ghost use Prim.Native.Nat.{ℕ, _*_, _<_, _≤_};
+ghost use lib.ListN.{length};
 ghost use Rattle.drawing.specs.Drawing.{isMarked, over};
 ghost use Rattle.drawing.specs.Checks.{LengthsFit, InRange};
-ghost use Rattle.survey.specs.Lent.{lent};
-ghost use Rattle.touring.specs.Working.{Outside, Tours, Clean, met, endIn};
+ghost use Rattle.drawing.specs.Laid.{lent};
+ghost use Rattle.touring.specs.Working.{Outside, Tours, Clean, Told};
 
 // Puts the end at each position of the tour into the first 2m entries.
 pub fn tour(turning: &[u16], marks: &[u8], start: usize, work: &mut [u16])
-    requires { ⌜ LengthsFit (lent (now turning) (now marks) start) × InRange (lent (now turning) (now marks) start) × (length (now turning) ≤ length (now work)) ⌝ }
+    requires { ⌜ LengthsFit (lent (now turning) (now marks) start)
+        × InRange (lent (now turning) (now marks) start)
+        × (length (now turning) ≤ length (now work)) ⌝ }
     ensures { λ _. ⌜ Tours (lent (now (turning .entry)) (now (marks .entry)) start) (now (work .exit)) ⌝ }
     ensures { λ _. ⌜ Outside 0 (length (now (turning .entry))) (now (work .entry)) (now (work .exit)) ⌝ }
 {
@@ -25,29 +26,30 @@ pub fn tour(turning: &[u16], marks: &[u8], start: usize, work: &mut [u16])
     }
 }
 
-// The other end of h's border if that is marked, else h.
-fn crossed(marks: &[u8], h: u16) -> u16
-    requires { ⌜ h < 2 * length (now marks) ⌝ }
-    ensures { λ r. ⌜ ((ts : List ℕ) (s : ℕ) → r ≡ over (isMarked (lent ts (now (marks .entry)) s)) h) × (r < 2 * length (now (marks .entry))) ⌝ }
+// Says in the second of three thirds of the list which positions are second places of their borders, and flags in the last
+// the borders met.
+pub fn seconds(work: &mut [u16], places: usize)
+    requires { ⌜ Clean places (now work) ⌝ }
+    ensures { λ _. ⌜ Told places (now (work .entry)) (now (work .exit)) ⌝ }
 {
-    if marks[h as usize / 2] == 1 {
-        survey::other(h)
-    } else {
-        h
+    let mut p = 0;
+    while p < places {
+        let e = border_in(work, p);
+        work[places + p] = work[2 * places + e];
+        work[2 * places + e] = 1;
+        p += 1;
     }
 }
 
-// Says in the second third of 3n entries which positions are second places of their borders.
-pub fn seconds(work: &mut [u16], n: usize)
-    requires { ⌜ Clean n (now work) ⌝ }
-    ensures { λ _. ⌜ ((p : ℕ) → p < n → getD (now (work .exit)) (n + p) 0 ≡ pick (met (endIn (now (work .entry))) p) 1 0) ⌝ }
-    ensures { λ _. ⌜ Outside n (3 * n) (now (work .entry)) (now (work .exit)) ⌝ }
+// The other end of h's border if that is marked, else h.
+fn crossed(marks: &[u8], h: u16) -> u16
+    requires { ⌜ h < 2 * length (now marks) ⌝ }
+    ensures { λ r. ⌜ ((ts : List ℕ) (s : ℕ) → r ≡ over (isMarked (lent ts (now (marks .entry)) s)) h)
+        × (r < 2 * length (now (marks .entry))) ⌝ }
 {
-    let mut p = 0;
-    while p < n {
-        let e = border_in(work, p);
-        work[n + p] = work[2 * n + e];
-        work[2 * n + e] = 1;
-        p += 1;
+    if marks[h as usize / 2] == 1 {
+        checking::other(h)
+    } else {
+        h
     }
 }

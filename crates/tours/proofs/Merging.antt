@@ -26,7 +26,7 @@ use Rattle.count.proofs.Logic.{same-or-not, lt-or-ge, true-or-false, true-not-f
 use Rattle.count.proofs.Below.{any-has, any-from, count-zero, count-yes, count-no, count-before, count-same, count-implies, count-split, count-none, count-one-less}
 use Rattle.orbits.specs.Cycles.{Permutes, low, leads, cycles}
 use Rattle.orbits.proofs.Low.{low-below, leads-is, leads-low}
-use Rattle.drawing.specs.Drawing.{Drawing, Cell, borders, ends, border, other, turn, isMarked, cells}
+use Rattle.drawing.specs.Drawing.{Drawing, Kind, borders, ends, border, other, turn, isMarked, cells}
 use Rattle.drawing.specs.Checks.{InRange, Distinct, Joined, markCount}
 use Rattle.drawing.proofs.Ends.{turn-permutes, other-border, other-below}
 use Rattle.drawing.proofs.Labels.{label, label-start, label-unmarked, label-at, label-off, label-same, linked-label}
@@ -169,7 +169,7 @@ module _ (D : Drawing) where
     pub points-merged : Joined D → 0 < borders D → cycles (ends D) (turn D) ≡ count (merges D) (borders D) + 1
     points-merged j pos = omega (arith, labels-fall (borders D) (omega arith), labels-one j pos)
 
-pub marks-at-least : (D : Drawing) → InRange D → Distinct D → Joined D → cells D Cell.point ≤ markCount D + 1
+pub marks-at-least : (D : Drawing) → InRange D → Distinct D → Joined D → cells D Kind.point ≤ markCount D + 1
 unfolding markCount
 marks-at-least D r d j =
     elim (lt-or-ge 0 (borders D)) [
@@ -180,10 +180,10 @@ marks-at-least D r d j =
             points-merged D (turn-permutes D r d) j pos,
             count-implies (merges D) (isMarked D) (borders D) (λ e l. both-left (isMarked D e) (parted D e)),
           )
-      | inr z ↦ omega (arith, cells-none D Cell.point (let q : borders D ≡ 0 = omega arith in q))
+      | inr z ↦ omega (arith, cells-none D Kind.point (let q : borders D ≡ 0 = omega arith in q))
     ]
 
-pub marks-merge : (D : Drawing) → InRange D → Distinct D → Joined D → markCount D < cells D Cell.point
+pub marks-merge : (D : Drawing) → InRange D → Distinct D → Joined D → markCount D < cells D Kind.point
     → (e : ℕ) → e < borders D → isMarked D e ≡ true → label D e (2 * e) ≢ label D e (2 * e + 1)
 unfolding markCount
 marks-merge D r d j few e l t s =

@@ -15,7 +15,7 @@ use Rattle.count.specs.Below.{count}
 use Rattle.count.proofs.Below.{count-not}
 use Rattle.orbits.specs.Cycles.{Permutes, cycles}
 use Rattle.orbits.proofs.Classes.{cycles-same}
-use Rattle.drawing.specs.Drawing.{Drawing, Cell, borders, ends, turn, isMarked, over, walk, around, cells, endAt}
+use Rattle.drawing.specs.Drawing.{Drawing, Kind, borders, ends, turn, isMarked, over, walk, around, cells, endAt}
 use Rattle.drawing.specs.Checks.{PassesSix, Alternate, Crossing, markCount}
 use Rattle.drawing.proofs.Ends.{turn-permutes, over-over}
 use Rattle.tours.proofs.Exchange.{over-permutes, over-rest}
@@ -61,7 +61,7 @@ tree-nests D six a b ma mb A =
     = cycles-same p (λ h b. ap (turn D) (sym (over-over (isMarked D) h))) in
     omega (arith, few, same, points-are D pos, six .few .fewer)
 
-pub crossing-not-flat : (D : Drawing) → PassesSix D → (a b : ℕ) → Crossing D a b → cells D Cell.area + cells D Cell.point ≤ borders D
+pub crossing-not-flat : (D : Drawing) → PassesSix D → (a b : ℕ) → Crossing D a b → cells D Kind.area + cells D Kind.point ≤ borders D
 unfolding ends markCount around walk
 crossing-not-flat D six a b C =
     let pos : 0 < borders D = omega (arith, C .first-border) in
@@ -69,13 +69,13 @@ crossing-not-flat D six a b C =
     let ua : U a ≡ true = rw (C .first-unmarked) in
     let ub : U b ≡ true = rw (C .second-unmarked) in
     let few = alternate-few-in D six pos U a b ua ub (C .alternate) in
-    let same : cycles (ends D) (λ h. walk D (isMarked D) (over U h)) ≡ cycles (ends D) (around D Cell.area)
+    let same : cycles (ends D) (λ h. walk D (isMarked D) (over U h)) ≡ cycles (ends D) (around D Kind.area)
     = cycles-same (over-permutes (borders D) (walk D (isMarked D)) U (tour-permutes D six)) (λ h b. ap (turn D) (over-rest (isMarked D) h)) in
     omega (
       arith,
       few,
       same,
-      cells-are D Cell.area pos,
+      cells-are D Kind.area pos,
       marks-at-least D (six .range) (six .entries) (six .joins),
       six .few .fewer,
       count-not (isMarked D) (borders D),

@@ -1,8 +1,4 @@
--- From a word to its drawing and back: the laws.
-pub mod Crossing
-pub mod Openings
-pub mod Ends
-pub mod Drawing
-pub mod Passes
-pub mod Words
-pub mod Renumbered
+-- Unpacking a packed map: the laws.
+pub mod Placed
+pub mod Written
+pub mod Answered

@@ -1,2 +1,3 @@
--- From a word to its drawing and back: the definitions.
-pub mod Faithful
+-- Unpacking a packed map: what an answer means, and what the lent lists hold after it.
+pub mod Answers
+pub mod Openings

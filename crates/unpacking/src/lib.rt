@@ -1,1 +1,18 @@
-// A theory crate: definitions in specs/, laws in proofs/, no code.
+// Unpacking a packed map into a drawing: its turning list and its marks, in lent lists.
+//
+//     unpack   writes the turning list and the marks, and answers m; or declines with a number
+//
+// Conventions. Position p of the word is place p + 1. Unpacking numbers borders by their first places;
+// the first place is the even end, the second the odd one, and the start is end 0. unpack takes any
+// bytes and any lists: where it declines, the lists stay as they were, and where it answers m, the
+// entries after the first 2m turning entries and the first m marks do.
+//
+// The source is document 01, "Tour and packed map", and its table, rows 8 to 12 and 16. The drawing of
+// a word is defined in the crate `format`; specs/Answers.antt says what an answer means, and the crate
+// `drawing`, specs/Laid.antt, what the lists hold after it.
+mod answers;
+mod ends;
+mod lists;
+
+pub use answers::Unpacked;
+pub use lists::unpack;

@@ -5,7 +5,9 @@ use mathlib.Core.List.{List, [], _∷_}
 use Prim.Native.Nat.{ℕ}
 use lib.ListN.{length, getD}
 use Rattle.words.specs.Brackets.{step, back, number, isFirst, isLast, first, size}
-use Rattle.words.specs.Word.{Family, round, square, Letter, Word, seen, crossing}
+use Rattle.words.specs.declared.family.Family.{Family}
+use Rattle.words.specs.declared.family.Family.the-variants.{Round as round, Square as square}
+use Rattle.words.specs.Word.{Letter, Word, seen, crossing}
 
 abbrev letter : Family → Bool → Letter
 letter K c = record { family = K; closing = c }

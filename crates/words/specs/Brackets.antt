@@ -1,17 +1,17 @@
--- Brackets of one family in a word of n letters. Positions count from 0: position p is document 01's place p + 1.
+-- Brackets of one family in a word of N letters. Positions count from 0: position p is document 01's place p + 1.
 --
 -- Bracket       == what a letter is to the family: it opens, it closes, or it is neither (of the other family)
 -- stack b p     == the positions before p that open and are still open at p, innermost first
 -- inner b p     == 0 where none is open just before p, else 1 + the position of the innermost open one (its place)
--- Balanced b n  == no closing meets an empty stack, and nothing is open at the end; balanced is its test
--- mate b n p    == the position of p's partner; p itself where p is neither
--- next n p      == the position after p, and 0 after the last; previous is its reverse
--- step b n p    == next of mate: the next position about the same point (area)
--- back b n p    == mate of previous: the reverse of step
+-- Balanced b N  == no closing meets an empty stack, and nothing is open at the end; balanced is its test
+-- mate b N p    == the position of p's partner; p itself where p is neither
+-- next N p      == the position after p, and 0 after the last; previous is its reverse
+-- step b N p    == next of mate: the next position about the same point (area)
+-- back b N p    == mate of previous: the reverse of step
 -- number b p    == 1 + how many open at the positions before `inner b p`: the point's (area's) number
 -- isFirst, isLast == whether p is the first, the last position of its point (area)
--- first b n k   == the lowest position with number k; n where there is none
--- size b n k    == how many positions have number k
+-- first b N k   == the lowest position with number k; N where there is none
+-- size b N k    == how many positions have number k
 --
 -- A point is what round brackets enclose, an area is what square brackets enclose: each definition stands once,
 -- for both. Assumes nothing.
@@ -54,36 +54,36 @@ unfoldable pub inner : (ℕ → Bracket) → ℕ → ℕ
 unfolding stack
 inner b p = top (stack b p)
 
-pub record Balanced (b : ℕ → Bracket) (n : ℕ) : Type 0 where
-  pub closing : (p : ℕ) → p < n → b p ≡ closes → inner b p ≢ 0
-  pub end : inner b n ≡ 0
+pub record Balanced (b : ℕ → Bracket) (N : ℕ) : Type 0 where
+  pub closing : (p : ℕ) → p < N → b p ≡ closes → inner b p ≢ 0
+  pub end : inner b N ≡ 0
 
 unfoldable pub balanced : (ℕ → Bracket) → ℕ → Bool
 unfolding all inner
-balanced b n = eqb (inner b n) 0 && all (λ p. not (isCloses (b p) && eqb (inner b p) 0)) n
+balanced b N = eqb (inner b N) 0 && all (λ p. not (isCloses (b p) && eqb (inner b p) 0)) N
 
--- the closing that takes p off the stack, or n
+-- the closing that takes p off the stack, or N
 unfoldable pub closer : (ℕ → Bracket) → ℕ → ℕ → ℕ
 unfolding find inner
-closer b n p = find (λ q. isCloses (b q) && eqb (inner b q) (suc p)) n
+closer b N p = find (λ q. isCloses (b q) && eqb (inner b q) (suc p)) N
 
 unfoldable pub mate : (ℕ → Bracket) → ℕ → ℕ → ℕ
 unfolding closer inner
-mate b n p = elim (b p) [ opens ↦ closer b n p | closes ↦ pred (inner b p) | neither ↦ p ]
+mate b N p = elim (b p) [ opens ↦ closer b N p | closes ↦ pred (inner b p) | neither ↦ p ]
 
 unfoldable pub next : ℕ → ℕ → ℕ
-next n p = pick (eqb (suc p) n) 0 (suc p)
+next N p = pick (eqb (suc p) N) 0 (suc p)
 
 unfoldable pub previous : ℕ → ℕ → ℕ
-previous n p = pick (eqb p 0) (pred n) (pred p)
+previous N p = pick (eqb p 0) (pred N) (pred p)
 
 unfoldable pub step : (ℕ → Bracket) → ℕ → ℕ → ℕ
 unfolding next mate
-step b n p = next n (mate b n p)
+step b N p = next N (mate b N p)
 
 unfoldable pub back : (ℕ → Bracket) → ℕ → ℕ → ℕ
 unfolding previous mate
-back b n p = mate b n (previous n p)
+back b N p = mate b N (previous N p)
 
 -- 01, Tour: "1 if no [ before place i is still open just before it. Otherwise 1 plus the rank among all [ of the
 -- innermost open one." A rank counts the bracket itself. The same with ( gives the point of a place.
@@ -99,12 +99,12 @@ isFirst b p = eqb (inner b p) p
 -- closes". The mate of the last position is that ( or, where it is no bracket of the family, the last position itself.
 unfoldable pub isLast : (ℕ → Bracket) → ℕ → ℕ → Bool
 unfolding mate
-isLast b n p = isCloses (b p) || eqb (mate b n (pred n)) p
+isLast b N p = isCloses (b p) || eqb (mate b N (pred N)) p
 
 unfoldable pub first : (ℕ → Bracket) → ℕ → ℕ → ℕ
 unfolding find number
-first b n k = find (λ p. eqb (number b p) k) n
+first b N k = find (λ p. eqb (number b p) k) N
 
 unfoldable pub size : (ℕ → Bracket) → ℕ → ℕ → ℕ
 unfolding count number
-size b n k = count (λ p. eqb (number b p) k) n
+size b N k = count (λ p. eqb (number b p) k) N

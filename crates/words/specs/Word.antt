@@ -9,10 +9,9 @@
 use mathlib.Core.Bool.{Bool, true, false}
 use Prim.Native.Nat.{ℕ}
 use Rattle.count.specs.Below.{pick}
+use Rattle.words.specs.declared.family.Family.{Family}
+use Rattle.words.specs.declared.family.Family.the-variants.{Round as round, Square as square}
 use Rattle.words.specs.Brackets.{Bracket, opens, closes, neither, mate}
-
-pub data Family : Type 0 where
-  round square : Family
 
 abbrev pub sameFamily : Family → Family → Bool
 sameFamily round round = true

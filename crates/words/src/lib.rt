@@ -1,1 +1,4 @@
-// A theory crate: definitions in specs/, laws in proofs/, no code.
+// Bracket words: definitions in specs/, laws in proofs/. The type of a family is the code's too.
+mod family;
+
+pub use family::Family;

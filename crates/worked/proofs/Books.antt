@@ -1,7 +1,7 @@
 -- The book against the packed map on small drawings, by computation: every call at every place, and a session. Assumes nothing.
 use mathlib.Core.Path.{_≡_, refl}
 use mathlib.Core.List.{List, [], _∷_}
-use Rattle.drawing.specs.Drawing.{Cell}
+use Rattle.drawing.specs.Drawing.{Kind}
 use Rattle.drawing.specs.Session.{Call, answer, refused}
 use Rattle.drawing.specs.Book.{bookSession, bookFirst, bookSize, bookNeighbours, bookJoining}
 use Rattle.format.specs.Calls.{mapSession, firstOf, sizeOf, neighboursOf, joiningOf}
@@ -16,13 +16,13 @@ pub record SmallBooks : Type 0 where
   pub triangle-session : bookSession triangle 1 calls ≡ mapSession triangleMap 1 calls
   pub triangle-outside : bookSession triangle 7 calls ≡ mapSession triangleMap 7 calls
   pub enclave-session : bookSession enclave 2 calls ≡ mapSession enclaveMap 2 calls
-  pub triangle-first : bookFirst triangle Cell.area 2 ≡ firstOf triangleMap Cell.area 2
-  pub triangle-degree : bookSize triangle Cell.point 3 ≡ sizeOf triangleMap Cell.point 3
+  pub triangle-first : bookFirst triangle Kind.area 2 ≡ firstOf triangleMap Kind.area 2
+  pub triangle-degree : bookSize triangle Kind.point 3 ≡ sizeOf triangleMap Kind.point 3
   pub triangle-neighbours : bookNeighbours triangle 2 ≡ neighboursOf triangleMap 2
   pub triangle-joining : bookJoining triangle 1 3 ≡ joiningOf triangleMap 1 3
   pub triangle-no-loop : bookJoining triangle 2 2 ≡ answer 0
   pub enclave-loop : bookJoining enclave 1 1 ≡ joiningOf enclaveMap 1 1
-  pub no-area-3 : bookSize triangle Cell.area 3 ≡ refused 15
+  pub no-area-3 : bookSize triangle Kind.area 3 ≡ refused 15
 
 pub small-books : SmallBooks
 unfolding bookSession mapSession bookFirst firstOf bookSize sizeOf bookNeighbours neighboursOf bookJoining joiningOf

@@ -1,7 +1,7 @@
 -- The examples of document 01's table, 1 to 17, and what unpacking gives, by computation. Assumes nothing.
 use mathlib.Core.Path.{_≡_, refl}
 use mathlib.Core.List.{List, [], _∷_}
-use Rattle.drawing.specs.Drawing.{Cell}
+use Rattle.drawing.specs.Drawing.{Kind}
 use Rattle.drawing.specs.Session.{answer, refused}
 use Rattle.format.specs.Bytes.{longest}
 use Rattle.format.specs.Calls.{crossOf, firstOf, sizeOf, joiningOf}
@@ -49,9 +49,9 @@ pub record MapRows : Type 0 where
   pub row-12 : openOf (0x01 ∷ 0x00 ∷ 0x02 ∷ 0x00 ∷ 0x03 ∷ 0x01 ∷ []) ≡ refused 12
   pub row-13 : crossOf stubMap 0 ≡ refused 13
   pub row-13-high : crossOf stubMap 65537 ≡ refused 13
-  pub row-14 : firstOf stubMap Cell.point 0 ≡ refused 14
+  pub row-14 : firstOf stubMap Kind.point 0 ≡ refused 14
   pub row-14-joining : joiningOf stubMap 1 3 ≡ refused 14
-  pub row-15 : sizeOf stubMap Cell.area 0 ≡ refused 15
+  pub row-15 : sizeOf stubMap Kind.area 0 ≡ refused 15
   pub row-16 : unpackOf stubMap 1 1 ≡ refused 16
 
 pub map-rows : MapRows

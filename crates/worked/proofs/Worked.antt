@@ -2,28 +2,30 @@
 use mathlib.Core.Path.{_≡_, refl}
 use mathlib.Core.List.{List}
 use Prim.Native.Nat.{ℕ}
-use Rattle.drawing.specs.Drawing.{Cell, cells}
+use Rattle.drawing.specs.Drawing.{Kind, cells}
 use Rattle.drawing.specs.Session.{answer, refused}
 use Rattle.format.specs.Calls.{crossOf, turnOf, pointOf, areaOf, sizeOf}
 use Rattle.format.specs.Open.{openOf}
+use Rattle.text.specs.Input.{readText}
 use Rattle.text.specs.Listing.{placesOf}
 use Rattle.worked.specs.Cases.{pack, empty, emptyMap, stub, stubMap, enclave, enclaveMap, triangle, triangleMap, triangleText, triangleListing, figure1, figure1Map}
 
 pub record WorkedExamples : Type 0 where
   pub a-packs : pack empty ≡ answer emptyMap
-  pub a-areas : cells empty Cell.area ≡ 1
+  pub a-areas : cells empty Kind.area ≡ 1
   pub a-opens : openOf emptyMap ≡ answer (record { m = 0; n = 1 })
-  pub a-area-1 : sizeOf emptyMap Cell.area 1 ≡ answer 0
-  pub a-area-2 : sizeOf emptyMap Cell.area 2 ≡ refused 15
+  pub a-area-1 : sizeOf emptyMap Kind.area 1 ≡ answer 0
+  pub a-area-2 : sizeOf emptyMap Kind.area 2 ≡ refused 15
   pub b-packs : pack stub ≡ answer stubMap
-  pub b-areas : cells stub Cell.area ≡ 1
-  pub b-area-1 : sizeOf stubMap Cell.area 1 ≡ answer 2
-  pub b-area-2 : sizeOf stubMap Cell.area 2 ≡ refused 15
+  pub b-areas : cells stub Kind.area ≡ 1
+  pub b-area-1 : sizeOf stubMap Kind.area 1 ≡ answer 2
+  pub b-area-2 : sizeOf stubMap Kind.area 2 ≡ refused 15
   pub b-turn : turnOf stubMap 1 ≡ answer 0
   pub c-packs : pack enclave ≡ answer enclaveMap
-  pub c-areas : cells enclave Cell.area ≡ 2
+  pub c-areas : cells enclave Kind.area ≡ 2
   pub c-area-1 : areaOf enclaveMap 1 ≡ answer 1
   pub c-area-2 : areaOf enclaveMap 2 ≡ answer 2
+  pub d-reads : readText triangleText ≡ answer triangle
   pub d-packs : pack triangle ≡ answer triangleMap
   pub d-listing : placesOf triangleText ≡ triangleListing
   pub figure-packs : pack figure1 ≡ answer figure1Map
@@ -37,7 +39,7 @@ pub record WorkedExamples : Type 0 where
   pub l-area-10 : areaOf figure1Map 10 ≡ answer 4
 
 pub worked-examples : WorkedExamples
-unfolding pack openOf cells sizeOf turnOf areaOf crossOf pointOf placesOf triangleText triangleListing
+unfolding pack openOf cells sizeOf turnOf areaOf crossOf pointOf readText placesOf triangleText triangleListing
 worked-examples =
     record {
       a-packs = refl;
@@ -54,6 +56,7 @@ worked-examples =
       c-areas = refl;
       c-area-1 = refl;
       c-area-2 = refl;
+      d-reads = refl;
       d-packs = refl;
       d-listing = refl;
       figure-packs = refl;

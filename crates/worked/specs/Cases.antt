@@ -1,7 +1,9 @@
 -- The drawings, maps and texts that document 01 works through, as it gives them.
 --
 -- drawing ts ks   == the drawing with that turning list and those marks, start 0
--- packs D s       == packing D, with the memory it asks for, gives the bytes s
+-- pack D          == packing D with the memory that it asks for
+-- empty, stub, enclave, triangle, figure1 == the drawings of (a), (b), (c), (d) and (e) to (l); emptyMap and so on are their maps
+-- triangleText, triangleListing == the input and the output of `places` for the triangle
 -- Assumes nothing.
 use mathlib.Core.List.{List, [], _∷_}
 use Prim.Native.Nat.{ℕ, _*_}

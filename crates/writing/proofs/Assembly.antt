@@ -14,14 +14,16 @@ use native.Mathlib.Omega.{arith}
 use lib.ListN.{length, getD, take, drop, length-drop, take-append-drop}
 use lib.Seq.{getD-drop, drop-drop, drop-cons, ext-getD}
 use Rattle.count.specs.Below.{count}
-use Rattle.words.specs.Word.{Family, round, square, Word}
+use Rattle.words.specs.declared.family.Family.{Family}
+use Rattle.words.specs.declared.family.Family.the-variants.{Round as round, Square as square}
+use Rattle.words.specs.Word.{Word}
 use Rattle.bits.specs.Strings.{bytesFor}
 use Rattle.format.specs.Bytes.{longest, header, Size, bitsB, startB, mapLength, stringA, stringB, bytesOf, mapBytes}
 use Rattle.format.proofs.Bits.{EachBelow}
 use Rattle.format.proofs.Strings.{inFamily, families-all, string-a-length, string-a-bits, string-b-length, string-b-bits}
 use Rattle.format.proofs.Parts.{Lengths, map-length}
-use Rattle.touring.specs.Working.{Outside}
-use Rattle.writing.specs.Writing.{wordAt, Legible, Sized, Holds, Zeroed, Headed}
+use Rattle.touring.specs.Working.{Outside, Zeroed}
+use Rattle.writing.specs.Writing.{wordAt, Legible, Sized, Holds, Filled, Headed}
 use Rattle.writing.proofs.Holding.{blank-holds, holds-kept, holds-part}
 use Rattle.writing.proofs.Filling.{word-length}
 
@@ -96,46 +98,44 @@ module _ (ms w : List ℕ) (n : ℕ) (L : Legible ms w) (Z : Sized n ms w) where
       map-fits = omega (arith, short)
 
       -- the first k bytes made 0, and then y and x for the header: here k is the map's length, and y and x are m and n
-      module _ (k : ℕ) (s1 : List ℕ) (Z1 : Zeroed k s0 s1) (far : header + a + b + c ≤ k) (y x : ℕ) (s2 : List ℕ) (h : Headed y x s1 s2) where
+      module _ (k : ℕ) (s1 : List ℕ) (Z1 : Zeroed 0 k s0 s1) (far : header + a + b + c ≤ k) (y x : ℕ) (s2 : List ℕ) (h : Headed y x s1 s2) where
         long-two : length s2 ≡ length s0
         long-two = h .outside .same-length ∙ Z1 .outside .same-length
 
         blank-two : (i : ℕ) → header ≤ i → i < header + a + b + c → getD s2 i 0 ≡ 0
-        blank-two i l g = h .outside .after i l ∙ Z1 .zero i (omega arith)
+        blank-two i l g = h .outside .after i l ∙ Z1 .zero i (omega arith) (omega arith)
 
         pub map-a : Holds s2 header A 0
         map-a = blank-holds s2 header A (omega arith) (omega (arith, a-bytes, long-two, map-fits)) (λ i l k. blank-two i l (omega (arith, a-bytes)))
 
-        module _ (s3 : List ℕ) (HA : Holds s3 header A (length A)) (OA : Outside header (header + bytesFor (length A)) s2 s3) where
+        module _ (s3 : List ℕ) (FA : Filled header A s2 s3) where
           blank-three : (i : ℕ) → header + a ≤ i → i < header + a + b + c → getD s3 i 0 ≡ 0
-          blank-three i l k = OA .after i (omega (arith, a-bytes)) ∙ blank-two i (omega arith) k
+          blank-three i l k = FA .outside .after i (omega (arith, a-bytes)) ∙ blank-two i (omega arith) k
 
           pub map-b : Holds s3 (header + a) (B round) 0
           map-b =
               blank-holds s3 (header + a) (B round) (omega (arith, short))
-              (omega (arith, b-bytes, OA .same-length, long-two, map-fits))
+              (omega (arith, b-bytes, FA .outside .same-length, long-two, map-fits))
               (λ i l k. blank-three i l (omega (arith, b-bytes)))
 
-          module _ (s4 : List ℕ) (HB : Holds s4 (header + a) (B round) (length (B round)))
-              (OB : Outside (header + a) (header + a + bytesFor (length (B round))) s3 s4) where
+          module _ (s4 : List ℕ) (FB : Filled (header + a) (B round) s3 s4) where
             pub map-s : Holds s4 (header + a + b) (B square) 0
             map-s =
                 blank-holds s4 (header + a + b) (B square) (omega (arith, short))
-                (omega (arith, s-bytes, OB .same-length, OA .same-length, long-two, map-fits))
-                (λ i l k. OB .after i (omega (arith, b-bytes)) ∙ blank-three i (omega arith) (omega (arith, s-bytes)))
+                (omega (arith, s-bytes, FB .outside .same-length, FA .outside .same-length, long-two, map-fits))
+                (λ i l k. FB .outside .after i (omega (arith, b-bytes)) ∙ blank-three i (omega arith) (omega (arith, s-bytes)))
 
-            module _ (s5 : List ℕ) (HS : Holds s5 (header + a + b) (B square) (length (B square)))
-                (OS : Outside (header + a + b) (header + a + b + bytesFor (length (B square))) s4 s5) where
+            module _ (s5 : List ℕ) (FS : Filled (header + a + b) (B square) s4 s5) where
               long-five : length s5 ≡ length s0
-              long-five = OS .same-length ∙ OB .same-length ∙ OA .same-length ∙ long-two
+              long-five = FS .outside .same-length ∙ FB .outside .same-length ∙ FA .outside .same-length ∙ long-two
 
               a-still : Holds s5 header A (length A)
               a-still =
-                  holds-kept s3 header A (length A) HA s5 (OS .same-length ∙ OB .same-length)
-                  (λ i l k. OS .before i (omega (arith, a-bytes)) ∙ OB .before i (omega (arith, a-bytes)))
+                  holds-kept s3 header A (length A) (FA .holds) s5 (FS .outside .same-length ∙ FB .outside .same-length)
+                  (λ i l k. FS .outside .before i (omega (arith, a-bytes)) ∙ FB .outside .before i (omega (arith, a-bytes)))
 
               b-still : Holds s5 (header + a) (B round) (length (B round))
-              b-still = holds-kept s4 (header + a) (B round) (length (B round)) HB s5 (OS .same-length) (λ i l k. OS .before i (omega (arith, b-bytes)))
+              b-still = holds-kept s4 (header + a) (B round) (length (B round)) (FB .holds) s5 (FS .outside .same-length) (λ i l k. FS .outside .before i (omega (arith, b-bytes)))
 
               beyond : k ≡ header + a + b + c → drop (header + a + b + c) s5 ≡ drop (header + a + b + c) s0
               beyond q =
@@ -143,15 +143,15 @@ module _ (ms w : List ℕ) (n : ℕ) (L : Legible ms w) (Z : Sized n ms w) where
                   ext-getD 0 (drop e s5) (drop e s0) (length-drop e s5 ∙ ap (λ x. x - e) long-five ∙ sym (length-drop e s0))
                   (λ i l.
                   getD-drop e s5 i 0
-                  ∙ OS .after (e + i) (omega (arith, s-bytes))
-                  ∙ OB .after (e + i) (omega (arith, b-bytes))
-                  ∙ OA .after (e + i) (omega (arith, a-bytes))
+                  ∙ FS .outside .after (e + i) (omega (arith, s-bytes))
+                  ∙ FB .outside .after (e + i) (omega (arith, b-bytes))
+                  ∙ FA .outside .after (e + i) (omega (arith, a-bytes))
                   ∙ h .outside .after (e + i) (omega arith)
                   ∙ Z1 .outside .after (e + i) (omega arith)
                   ∙ sym (getD-drop e s0 i 0))
 
               front : (i : ℕ) → i < header → getD s5 i 0 ≡ getD s2 i 0
-              front i l = OS .before i (omega arith) ∙ OB .before i (omega arith) ∙ OA .before i l
+              front i l = FS .outside .before i (omega arith) ∙ FB .outside .before i (omega arith) ∙ FA .outside .before i l
 
               pub map-written : k ≡ header + a + b + c → y ≡ length ms → x ≡ n → s5 ≡ mapBytes z W ++ drop (length (mapBytes z W)) s0
               unfolding mapBytes
@@ -166,7 +166,7 @@ module _ (ms w : List ℕ) (n : ℕ) (L : Legible ms w) (Z : Sized n ms w) where
                   ∙ ap (λ t. bytesOf A ++ t)
                   (split-part s5 (header + a) (B round) b (string-b-bits W round) b-still b-bytes
                   ∙ ap (λ t. bytesOf (B round) ++ t)
-                  (split-part s5 (header + a + b) (B square) c (string-b-bits W square) HS s-bytes ∙ ap (λ t. bytesOf (B square) ++ t) (beyond ends))) in
+                  (split-part s5 (header + a + b) (B square) c (string-b-bits W square) (FS .holds) s-bytes ∙ ap (λ t. bytesOf (B square) ++ t) (beyond ends))) in
                   let grouped : (P Q R d : List ℕ) → P ++ (Q ++ (R ++ d)) ≡ (P ++ (Q ++ R)) ++ d = λ P Q R d. simp append-assoc in
                   let whole : (x y u v : ℕ) (t : List ℕ) → getD s5 0 0 ≡ x → getD s5 1 0 ≡ y → getD s5 2 0 ≡ u → getD s5 3 0 ≡ v → drop 4 s5 ≡ t
                   → s5 ≡ x ∷ y ∷ u ∷ v ∷ t

@@ -1,34 +1,34 @@
 -- Bits written one after another into zeroed bytes: A, B and B*.
 --
 -- Filling old at bits k s == s is old but for the bytes from `at` on, which hold k of the bits
--- family-..        == the bit that A has at a position
+-- round-is         == a family that is round by a test
+-- family-..        == the family of a position
 -- lettering-..     == A, a bit for each position
--- Gathering ms w v old at p j s == of the first p positions those of one family have their bits in B, or B*
+-- Gathering ms w K old at p j s == of the first p positions those of one family have their bits in B, or B*
 -- gathering-..     == from one position to the next, and at the end
 -- Assumes nothing.
 use mathlib.Core.Path.{_≡_, refl, sym, ap, _∙_}
-use mathlib.Core.Logic.{inl, inr}
-use mathlib.Core.Bool.{Bool, true, false}
+use mathlib.Core.Bool.{Bool, true, false, not}
 use mathlib.Core.List.{List}
 use Prim.Native.Nat.{ℕ, _+_, _*_, _/_, _%_, _<_, _≤_}
 use native.Mathlib.Omega.{arith}
 use borrow.Author.Needs.{needs}
-use borrow.Author.Tests.{eq-eqb, ne-eqb}
 use lib.Dec.{eqb}
 use lib.ListN.{length, getD}
 use mir.Syntax.{w64}
 use mir.Val.{Fits}
 use Rattle.count.specs.Below.{pick, count}
-use Rattle.count.proofs.Logic.{same-or-not}
 use Rattle.count.proofs.Below.{count-zero, count-yes, count-no, count-before, count-le}
-use Rattle.words.specs.Word.{Family}
+use Rattle.words.specs.declared.family.Family.{Family}
+use Rattle.words.specs.declared.family.Family.the-variants.{Round as round, Square as square}
+use Rattle.words.specs.Word.{sameFamily}
 use Rattle.bits.specs.Strings.{bytesFor}
 use Rattle.bits.specs.Writes.{withBit, setBit}
 use Rattle.drawing.proofs.Ends.{border-below}
-use Rattle.format.specs.Bytes.{header, familyOf, familyBit, closingBit, stringA, stringB}
-use Rattle.format.proofs.Strings.{inFamily, family-same, bit-back, string-a-length, string-a-at, string-b-length, string-b-at}
-use Rattle.touring.specs.Working.{Outside, endIn, borderIn}
-use Rattle.writing.specs.Writing.{wordAt, Legible, Holds}
+use Rattle.format.specs.Bytes.{header, familyBit, closingBit, stringA, stringB}
+use Rattle.format.proofs.Strings.{inFamily, string-a-length, string-a-at, string-b-length, string-b-at}
+use Rattle.touring.specs.Working.{Outside, tourIn, borderIn}
+use Rattle.writing.specs.Writing.{wordAt, Legible, Holds, Filled}
 use Rattle.touring.proofs.Outside.{outside-none, outside-set}
 use Rattle.writing.proofs.Holding.{bits-room, holds-more}
 
@@ -51,31 +51,31 @@ filling-more old at bits k s F l v e =
           (F .outside) (omega arith) (omega (arith, bits-room bits k l));
     }
 
--- ---- family_bit
-module _ (ms w : List ℕ) (L : Legible ms w) (p : ℕ) (l : p < 2 * length ms) (e : ℕ) (q : e ≡ borderIn w p) where
-  pub family-place : e < length ms
-  family-place = rw q (border-below (length ms) (endIn w p) (L .below p l))
+-- ---- is_of
+pub round-is : (t : Bool) → sameFamily round (pick t round square) ≡ t
+round-is true = refl
+round-is false = refl
 
-  pub family-round : getD ms e 0 ≡ 1 → 1 ≡ familyBit (wordAt ms w .letter p .family)
+square-is : (t : Bool) → sameFamily square (pick t round square) ≡ not t
+square-is true = refl
+square-is false = refl
+
+module _ (ms w : List ℕ) (p e : ℕ) (q : e ≡ borderIn w p) where
+  pub family-place : Legible ms w → p < 2 * length ms → e < length ms
+  family-place L l = rw q (border-below (length ms) (tourIn w p) (L .below p l))
+
+  pub family-round : (K : Family) → K ≡ round → eqb (getD ms e 0) 1 ≡ sameFamily K (wordAt ms w .letter p .family)
   unfolding wordAt
-  family-round h = rw (← q, eq-eqb (getD ms e 0) 1 h)
+  family-round K k = rw k (ap (λ x. eqb (getD ms x 0) 1) q ∙ sym (round-is (eqb (getD ms (borderIn w p) 0) 1)))
 
-  pub family-square : (getD ms e 0 ≡ 1 → ⊥) → 0 ≡ familyBit (wordAt ms w .letter p .family)
+  pub family-square : (K : Family) → K ≡ square → not (eqb (getD ms e 0) 1) ≡ sameFamily K (wordAt ms w .letter p .family)
   unfolding wordAt
-  family-square h = rw (← q, ne-eqb (getD ms e 0) 1 h)
+  family-square K k = rw k (ap (λ x. not (eqb (getD ms x 0) 1)) q ∙ sym (square-is (eqb (getD ms (borderIn w p) 0) 1)))
 
-pub family-here : (ms w : List ℕ) → Legible ms w → (p : ℕ) → p < 2 * length ms → p < length w
-family-here ms w L p l = omega (arith, L .room)
-
-pub ruleset family-all = (family-here, family-place, family-round, family-square, needs)
-
--- a bit as a test, and back
-bit-test : (x r : ℕ) → r ≡ x → r < 2 → pick (eqb r 1) 1 0 ≡ x
-bit-test x r e l =
-    elim (same-or-not r 1) [
-      | inl h ↦ rw (eq-eqb r 1 h) (sym h ∙ e)
-      | inr d ↦ rw (ne-eqb r 1 d) (omega arith)
-    ]
+-- the bit that A has for a family
+round-bit : (K : Family) → pick (sameFamily round K) 1 0 ≡ familyBit K
+round-bit round = refl
+round-bit square = refl
 
 closing-test : (t : Bool) → pick t 1 0 ≡ closingBit t
 closing-test true = refl
@@ -97,19 +97,18 @@ module _ (ms w : List ℕ) (L : Legible ms w) (old : List ℕ) where
   lettering-start H = filling-start old header A H
 
   module _ (p : ℕ) (s : List ℕ) (F : Filling old header A p s) where
-    pub lettering-more : p < 2 * length ms → (r : ℕ) → (r ≡ familyBit (wordAt ms w .letter p .family)) → (r < 2) → (u : List ℕ) → u ≡ setBit s (8 * header + p) (eqb r 1)
-        → Filling old header A (p + 1) u
-    lettering-more l r e b u q =
+    pub lettering-more : p < 2 * length ms → (r : Bool) → r ≡ sameFamily round (wordAt ms w .letter p .family)
+        → (u : List ℕ) → u ≡ setBit s (8 * header + p) r → Filling old header A (p + 1) u
+    lettering-more l r e u q =
         let h : p < wordAt ms w .size = rw (word-length ms w) l in
-        rw q (filling-more old header A p s F (omega (arith, a-long)) (eqb r 1) (bit-test (getD A p 0) r (e ∙ sym (string-a-at (wordAt ms w) p h)) b))
+        rw q
+        (filling-more old header A p s F (omega (arith, a-long)) r
+        (ap (λ t. pick t 1 0) e ∙ round-bit (wordAt ms w .letter p .family) ∙ sym (string-a-at (wordAt ms w) p h)))
 
-    pub lettering-all : 2 * length ms ≤ p → Holds s header A (length A)
+    pub lettering-all : 2 * length ms ≤ p → Filled header A old s
     lettering-all l =
         let e : p ≡ length A = omega (arith, a-long, F .holds .within) in
-        rw (← e) (F .holds)
-
-    pub lettering-outside : Outside header (header + bytesFor (length A)) old s
-    lettering-outside = F .outside
+        record { holds = rw (← e) (F .holds); outside = F .outside }
 
     pub lettering-length : length s ≡ length old
     lettering-length = F .outside .same-length
@@ -120,39 +119,31 @@ lettering-fits ms w L = record { fits = omega (arith, L .small) }
 pub lettering-sum : (ms w : List ℕ) → Legible ms w → (p : ℕ) → p < 2 * length ms → Fits w64 (32 + p)
 lettering-sum ms w L p l = record { fits = omega (arith, L .small) }
 
+pub ruleset lettering-sizes = (lettering-fits, lettering-sum, needs)
+
 -- ---- write_b
-pub record Gathering (ms w : List ℕ) (v : ℕ) (old : List ℕ) (at p j : ℕ) (s : List ℕ) : Type 0 where
+pub record Gathering (ms w : List ℕ) (K : Family) (old : List ℕ) (at p j : ℕ) (s : List ℕ) : Type 0 where
   pub within : p ≤ 2 * length ms
-  pub is : j ≡ count (inFamily (familyOf v) (wordAt ms w)) p
-  pub filling : Filling old at (stringB (familyOf v) (wordAt ms w)) j s
+  pub is : j ≡ count (inFamily K (wordAt ms w)) p
+  pub filling : Filling old at (stringB K (wordAt ms w)) j s
 
-module _ (ms w : List ℕ) (L : Legible ms w) (v : ℕ) (small : v < 2) (old : List ℕ) (at : ℕ) where
-  abbrev K : Family
-  K = familyOf v
-
+module _ (ms w : List ℕ) (L : Legible ms w) (K : Family) (old : List ℕ) (at : ℕ) where
   abbrev B : List ℕ
   B = stringB K (wordAt ms w)
 
   b-long : length B ≡ count (inFamily K (wordAt ms w)) (2 * length ms)
   b-long = string-b-length (wordAt ms w) K ∙ ap (count (inFamily K (wordAt ms w))) (word-length ms w)
 
-  pub gathering-start : Holds old at B 0 → Gathering ms w v old at 0 0 old
+  pub gathering-start : Holds old at B 0 → Gathering ms w K old at 0 0 old
   gathering-start H =
       record { within = omega arith; is = sym (count-zero (inFamily K (wordAt ms w))); filling = filling-start old at B H }
 
-  -- the letter's bit in A says its family
-  in-test : (p r : ℕ) → r ≡ familyBit (wordAt ms w .letter p .family) → inFamily K (wordAt ms w) p ≡ eqb r v
-  in-test p r e = family-same K (wordAt ms w .letter p .family) ∙ rw (← e, bit-back v small)
-
-  module _ (p j : ℕ) (s : List ℕ) (G : Gathering ms w v old at p j s) where
-    pub gathering-all : 2 * length ms ≤ p → Holds s at B (length B)
+  module _ (p j : ℕ) (s : List ℕ) (G : Gathering ms w K old at p j s) where
+    pub gathering-all : 2 * length ms ≤ p → Filled at B old s
     gathering-all l =
         let e : p ≡ 2 * length ms = omega (arith, G .within) in
         let f : j ≡ length B = G .is ∙ ap (count (inFamily K (wordAt ms w))) e ∙ sym b-long in
-        rw (← f) (G .filling .holds)
-
-    pub gathering-outside : Outside at (at + bytesFor (length B)) old s
-    gathering-outside = G .filling .outside
+        record { holds = rw (← f) (G .filling .holds); outside = G .filling .outside }
 
     pub gathering-length : length s ≡ length old
     gathering-length = G .filling .outside .same-length
@@ -179,13 +170,13 @@ module _ (ms w : List ℕ) (L : Legible ms w) (v : ℕ) (small : v < 2) (old : L
       pub gathering-count : Fits w64 (j + 1)
       gathering-count = record { fits = omega (arith, few, L .small) }
 
-      module _ (r : ℕ) (e : r ≡ familyBit (wordAt ms w .letter p .family)) where
-        pub gathering-take : r ≡ v → (i : ℕ) (u x : List ℕ) → i ≡ j + 1 → u ≡ setBit s (8 * at + j) (eqb (getD w (2 * length ms + p) 0) 1) → x ≡ u
-            → Gathering ms w v old at (p + 1) i x
+      module _ (r : Bool) (e : r ≡ sameFamily K (wordAt ms w .letter p .family)) where
+        pub gathering-take : r ≡ true → (i : ℕ) (u x : List ℕ) → i ≡ j + 1 → u ≡ setBit s (8 * at + j) (eqb (getD w (2 * length ms + p) 0) 1) → x ≡ u
+            → Gathering ms w K old at (p + 1) i x
         unfolding wordAt
         gathering-take h i u x f q y =
             let P = inFamily K (wordAt ms w) in
-            let t : P p ≡ true = in-test p r e ∙ eq-eqb r v h in
+            let t : P p ≡ true = sym e ∙ h in
             let c : count P p < count P (2 * length ms) = count-before P p (2 * length ms) l t in
             let value : getD B j 0 ≡ closingBit (eqb (getD w (2 * length ms + p) 0) 1)
             = ap (λ x. getD B x 0) (G .is) ∙ string-b-at (wordAt ms w) K p l t in
@@ -198,12 +189,12 @@ module _ (ms w : List ℕ) (L : Legible ms w) (v : ℕ) (small : v < 2) (old : L
                   (closing-test (eqb (getD w (2 * length ms + p) 0) 1) ∙ sym value);
             })
 
-        pub gathering-pass : (r ≡ v → ⊥) → (i : ℕ) (u : List ℕ) → i ≡ j → u ≡ s → Gathering ms w v old at (p + 1) i u
+        pub gathering-pass : r ≡ false → (i : ℕ) (u : List ℕ) → i ≡ j → u ≡ s → Gathering ms w K old at (p + 1) i u
         gathering-pass h i u f q =
             let P = inFamily K (wordAt ms w) in
             rw (f, q)
             (record {
               within = omega arith;
-              is = omega (arith, G .is, count-no P p (in-test p r e ∙ ne-eqb r v h));
+              is = omega (arith, G .is, count-no P p (sym e ∙ h));
               filling = G .filling;
             })

@@ -1,6 +1,6 @@
 -- What bytes hold: zeros, and the bits of a string.
 --
--- bytes-for-is, header-two, header-three == how many bytes; the header's are there
+-- header-two, header-three == the header's bytes are there
 -- headed-is        == the four bytes of the header, and the others as before
 -- zeroing-..       == the first bytes made 0, one after another
 -- blank-holds      == zeroed bytes hold no bits yet
@@ -21,22 +21,14 @@ use lib.Seq.{getD-set-same, getD-set-other, getD-take, getD-drop}
 use Rattle.count.specs.Below.{pick}
 use Rattle.count.proofs.Logic.{same-or-not, lt-or-ge}
 use Rattle.bits.specs.Strings.{bit, bytesFor}
-use Rattle.bits.specs.Writes.{withBit, setBit}
+use Rattle.bits.specs.Writes.{setBit}
 use Rattle.bits.proofs.Laws.{bit-past}
-use Rattle.bits.proofs.Digits.{with-bit-below}
-use Rattle.bits.proofs.Stores.{set-bit-length, set-bit-here, set-bit-other}
+use Rattle.bits.proofs.Stores.{set-bit-length, set-bit-here, set-bit-other, set-bit-small}
 use Rattle.format.specs.Bytes.{longest, header, bytesOf}
 use Rattle.format.proofs.Bits.{EachBelow, each-below, bytes-of-length, bytes-of-bit, bytes-of-small, bytes-same}
-use Rattle.touring.specs.Working.{Outside}
-use Rattle.writing.specs.Writing.{Holds, Zeroed, Headed}
+use Rattle.touring.specs.Working.{Outside, Zeroed}
+use Rattle.writing.specs.Writing.{Holds, Headed}
 use Rattle.touring.proofs.Outside.{outside-none, outside-set}
-
--- ---- bytes_for
-pub bytes-for-is : (k : ℕ) → (k + 7) / 8 ≡ bytesFor k
-unfolding bytesFor
-bytes-for-is k = refl
-
-pub ruleset bytes-for-all = (bytes-for-is, needs)
 
 -- ---- write_header
 pub header-two : (s : List ℕ) (a : ℕ) → header ≤ length s → 1 < length (set s 0 a)
@@ -104,8 +96,8 @@ module _ (k : ℕ) (old : List ℕ) where
           outside = outside-set 0 k old s i 0 (Z .outside) (omega arith) l;
         }
 
-    pub zeroing-all : k ≤ i → Zeroed k old s
-    zeroing-all l = record { zero = λ j h. Z .zero j (omega arith); outside = Z .outside }
+    pub zeroing-all : k ≤ i → Zeroed 0 k old s
+    zeroing-all l = record { zero = λ j g h. Z .zero j (omega arith); outside = Z .outside }
 
     pub zeroing-length : length s ≡ length old
     zeroing-length = Z .outside .same-length
@@ -140,17 +132,6 @@ pub bits-room : (bits : List ℕ) (k : ℕ) → k < length bits → k < 8 * byte
 unfolding bytesFor
 bits-room bits k l = omega arith
 
-set-small : (s : List ℕ) (i : ℕ) (v : Bool) (j : ℕ) → getD s j 0 < 256 → i / 8 < length s → getD (setBit s i v) j 0 < 256
-unfolding setBit
-set-small s i v j l b =
-    let x = withBit (getD s (i / 8) 0) (i % 8) v in
-    elim (same-or-not j (i / 8)) [
-      | inl e ↦
-          rw (e, getD-set-same s (i / 8) x 0 b)
-          (with-bit-below (getD s (i / 8) 0) (i % 8) v 8 (rw e at l) (omega arith))
-      | inr d ↦ rw (getD-set-other s (i / 8) j x 0 d) l
-    ]
-
 module _ (s : List ℕ) (at : ℕ) (bits : List ℕ) (k : ℕ) (H : Holds s at bits k) where
   pub holds-more : k < length bits → (v : Bool) → pick v 1 0 ≡ getD bits k 0 → Holds (setBit s (8 * at + k) v) at bits (k + 1)
   holds-more l v e =
@@ -166,7 +147,7 @@ module _ (s : List ℕ) (at : ℕ) (bits : List ℕ) (k : ℕ) (H : Holds s at b
               | inr d ↦ set-bit-other s (8 * at + k) v (8 * at + j) (omega arith) ∙ H .on j (omega arith)
             ];
         off = λ j h r. set-bit-other s (8 * at + k) v (8 * at + j) (omega arith) ∙ H .off j (omega arith) r;
-        small = λ i h r. set-small s (8 * at + k) v i (H .small i h r) b;
+        small = λ i h r. set-bit-small s (8 * at + k) v i (H .small i h r);
       }
 
   pub holds-kept : (u : List ℕ) → length u ≡ length s → ((i : ℕ) → at ≤ i → i < at + bytesFor (length bits) → getD u i 0 ≡ getD s i 0) → Holds u at bits k

@@ -1,10 +1,11 @@
 -- Writing a map: the word that the chart holds, and what the output holds on the way.
 --
 -- wordAt ms w      == the bracket word of the tour that stands in w, with marks ms
+-- chartBytes n ms w == the bytes of its map, with n points
 -- Legible ms w     == the chart w has an end and a flag for each of the 2m positions
 -- Sized n ms w     == its word has 2n - 2 round letters, and n is 1 to m + 1
 -- Holds s at bits k == from byte `at` on s holds the first k of the bits, then zeros, in as many bytes as all the bits take
--- Zeroed k old new == new is old with its first k entries 0
+-- Filled at bits old new == new is old, but holds all the bits from byte `at` on
 -- Headed m n old new == new is old with m and n for its first four bytes
 -- Assumes nothing.
 use mathlib.Core.Path.{_≡_}
@@ -13,11 +14,12 @@ use Prim.Native.Nat.{ℕ, _+_, _-_, _*_, _/_, _%_, _<_, _≤_}
 use lib.Dec.{eqb}
 use lib.ListN.{length, getD}
 use Rattle.count.specs.Below.{pick, count}
-use Rattle.words.specs.Word.{round, square, sameFamily, Word}
+use Rattle.words.specs.declared.family.Family.the-variants.{Round as round, Square as square}
+use Rattle.words.specs.Word.{sameFamily, Word}
 use Rattle.bits.specs.Strings.{bit, bytesFor}
-use Rattle.drawing.specs.Drawing.{border}
-use Rattle.format.specs.Bytes.{longest, header}
-use Rattle.touring.specs.Working.{Outside, endIn, borderIn}
+use Rattle.drawing.specs.Drawing.{mostBorders, border}
+use Rattle.format.specs.Bytes.{longest, header, mapBytes}
+use Rattle.touring.specs.Working.{Outside, tourIn, borderIn}
 
 unfoldable pub wordAt : List ℕ → List ℕ → Word
 unfolding border
@@ -30,10 +32,13 @@ wordAt ms w =
       };
     }
 
+abbrev pub chartBytes : ℕ → List ℕ → List ℕ → List ℕ
+chartBytes n ms w = mapBytes (record { m = length ms; n = n }) (wordAt ms w)
+
 pub record Legible (ms w : List ℕ) : Type 0 where
   pub room : 2 * (2 * length ms) ≤ length w
-  pub small : length ms ≤ 2048
-  pub below : (p : ℕ) → p < 2 * length ms → endIn w p < 2 * length ms
+  pub small : length ms ≤ mostBorders
+  pub below : (p : ℕ) → p < 2 * length ms → tourIn w p < 2 * length ms
 
 pub record Sized (n : ℕ) (ms w : List ℕ) : Type 0 where
   pub least : 1 ≤ n
@@ -48,9 +53,9 @@ pub record Holds (s : List ℕ) (at : ℕ) (bits : List ℕ) (k : ℕ) : Type 0 
   pub off : (j : ℕ) → k ≤ j → j < 8 * bytesFor (length bits) → bit s (8 * at + j) ≡ 0
   pub small : (i : ℕ) → at ≤ i → i < at + bytesFor (length bits) → getD s i 0 < 256
 
-pub record Zeroed (k : ℕ) (old new : List ℕ) : Type 0 where
-  pub zero : (i : ℕ) → i < k → getD new i 0 ≡ 0
-  pub outside : Outside 0 k old new
+pub record Filled (at : ℕ) (bits old new : List ℕ) : Type 0 where
+  pub holds : Holds new at bits (length bits)
+  pub outside : Outside at (at + bytesFor (length bits)) old new
 
 pub record Headed (m n : ℕ) (old new : List ℕ) : Type 0 where
   pub m-low : getD new 0 0 ≡ m % 256

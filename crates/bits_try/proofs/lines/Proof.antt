@@ -16,8 +16,20 @@ loop-holds c = omega arith
 counts-requires : tie.Need-counts-requires Inv-loop μ-loop
 counts-requires c κs = omega arith
 
+runs-requires : tie.Need-runs-requires Inv-loop μ-loop
+runs-requires c κs = omega arith
+
 brackets-requires : tie.Need-brackets-requires Inv-loop μ-loop
 brackets-requires c κs = omega arith
+
+scan-requires : tie.Need-scan-requires Inv-loop μ-loop
+scan-requires c κs = omega arith
+
+add-scan : tie.Need-add-scan Inv-loop μ-loop
+add-scan c = omega arith
+
+scan-requires-2 : tie.Need-scan-requires-2 Inv-loop μ-loop
+scan-requires-2 c κs = omega arith
 
 cleared-requires : tie.Need-cleared-requires Inv-loop μ-loop
 cleared-requires c κs = omega arith
@@ -45,7 +57,11 @@ lines-spec =
     μ-loop
     loop-holds
     counts-requires
+    runs-requires
     brackets-requires
+    scan-requires
+    add-scan
+    scan-requires-2
     cleared-requires
     add-n
     add-n-2

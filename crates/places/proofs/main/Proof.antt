@@ -1,8 +1,8 @@
 -- `places::main` meets its contract. Assumes nothing.
 use mathlib.Core.Path.{sym}
 use lib.Seq.{length-take-le}
-use Rattle.printout.proofs.Denoted.{places-within}
 use borrow.Author.Needs.{needs}
+use Rattle.places.proofs.Ending.{heard-within}
 use Rattle.places.proofs.main.Statement.{statement}
 use Rattle.places.proofs.main.Tie as tie
 
@@ -15,29 +15,44 @@ slice-aggregate-read-full c = search needs
 read-full-requires : tie.Need-read-full-requires
 read-full-requires c κs = search needs
 
+slice-aggregate-read : tie.Need-slice-aggregate-read
+slice-aggregate-read c = search needs
+
+read-requires : tie.Need-read-requires
+read-requires c κs = search needs
+
 output-requires : tie.Need-output-requires
 output-requires c κs = search needs
 
 array-share-prefix-text : tie.Need-array-share-prefix-text
 array-share-prefix-text c = search needs
 
-slice-aggregate-places : tie.Need-slice-aggregate-places
-slice-aggregate-places c = search needs
+slice-aggregate-respond : tie.Need-slice-aggregate-respond
+slice-aggregate-respond c = search needs
 
-places-requires : tie.Need-places-requires
-places-requires c κs = search needs
+respond-requires : tie.Need-respond-requires
+respond-requires c κs = search needs
 
 array-share-prefix-out : tie.Need-array-share-prefix-out
-array-share-prefix-out c = places-within _ _ _ _ (c .places .ensures)
+array-share-prefix-out c = heard-within _ _ _ _ _ (c .respond .ensures)
 
 slice-aggregate-write-all : tie.Need-slice-aggregate-write-all
-slice-aggregate-write-all c = sym (length-take-le _ _ (places-within _ _ _ _ (c .before .places .ensures)))
+slice-aggregate-write-all c = sym (length-take-le _ _ (heard-within _ _ _ _ _ (c .before .respond .ensures)))
 
 write-all-requires : tie.Need-write-all-requires
 write-all-requires c κs = search needs
 
+slice-aggregate-write-all-2 : tie.Need-slice-aggregate-write-all-2
+slice-aggregate-write-all-2 c = search needs
+
+write-all-requires-2 : tie.Need-write-all-requires-2
+write-all-requires-2 c κs = search needs
+
 returns : tie.Need-returns
 returns c = search needs
+
+returns-2 : tie.Need-returns-2
+returns-2 c = search needs
 
 pub main-spec : {M : Type 1} → statement M
 main-spec =
@@ -46,11 +61,16 @@ main-spec =
     input-requires
     slice-aggregate-read-full
     read-full-requires
+    slice-aggregate-read
+    read-requires
     output-requires
     array-share-prefix-text
-    slice-aggregate-places
-    places-requires
+    slice-aggregate-respond
+    respond-requires
     array-share-prefix-out
     slice-aggregate-write-all
     write-all-requires
-    returns)
+    slice-aggregate-write-all-2
+    write-all-requires-2
+    returns
+    returns-2)

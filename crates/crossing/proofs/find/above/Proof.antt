@@ -5,10 +5,10 @@ use Rattle.crossing.proofs.find.above.Statement.{statement}
 use Rattle.crossing.proofs.find.above.Tie as tie
 
 abbrev Inv-loop : tie.InvT-loop
-Inv-loop work n k e i₀ i = Climbing n k e work i
+Inv-loop work places k e i₀ i = Climbing places k e work i
 
 abbrev μ-loop : tie.MeasureT-loop
-μ-loop work n k e i₀ i = k - i
+μ-loop work places k e i₀ i = k - i
 
 loop-holds : tie.Need-loop-holds Inv-loop μ-loop
 loop-holds c = search above-all

@@ -23,7 +23,7 @@ returns c =
     let byte = first .before in
     let start = byte .before .before .before .before in
     let a = start .args in
-    kind-wrote (a .out .now) _ (a .at) (first .put-byte .result) (last .put-byte2 .result) (byte .kind-at .result) _ _ (start .pre .1)
+    kind-wrote (a .out .now) _ (a .at) (first .put-byte .result) (last .put-byte2 .result) (byte .kind-at .result) _ _ (start .pre)
     (byte .kind-at .ensures) (first .put-byte .ensures) (last .put-byte2 .ensures)
 
 pub put-kind-spec : {M : Type 1} → statement M

@@ -10,8 +10,8 @@ Inv-loop map out₀ at n p₀ next₀ out p next = Lined map out₀ at n p out n
 abbrev μ-loop : tie.MeasureT-loop
 μ-loop map out₀ at n p₀ next₀ out p next = n - p
 
-places-requires : tie.Need-places-requires Inv-loop μ-loop
-places-requires c κs = search lined-all
+bits-a-requires : tie.Need-bits-a-requires Inv-loop μ-loop
+bits-a-requires c κs = search lined-all
 
 loop-holds : tie.Need-loop-holds Inv-loop μ-loop
 loop-holds c = search lined-all
@@ -40,7 +40,7 @@ put-lines-spec =
     (tie.spec
     Inv-loop
     μ-loop
-    places-requires
+    bits-a-requires
     loop-holds
     put-line-requires
     add-p

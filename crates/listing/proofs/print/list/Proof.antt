@@ -14,7 +14,7 @@ returns : tie.Need-returns
 returns c =
     let test = c .before .before in
     let a = test .before .before .before .args in
-    refused-printed (a .out .now) _ (c .refused .result) (a .map .now) (test .before .refusal .result) (test .before .refusal .ensures) (test .if1 .taken) (c .refused .ensures)
+    refused-printed (a .out .now) _ (c .refused .result) (a .map .now) (test .before .refusal .result) (test .before .refusal .ensures .0) (test .if1 .taken) (c .refused .ensures)
 
 put-listing-requires : tie.Need-put-listing-requires
 put-listing-requires c κs = search needs
@@ -23,7 +23,7 @@ returns-2 : tie.Need-returns-2
 returns-2 c =
     let test = c .before .before in
     let a = test .before .before .before .args in
-    listing-printed (a .out .now) _ (c .put-listing .result) (a .map .now) (test .before .refusal .result) (test .before .refusal .ensures) (test .if1 .left) (c .put-listing .ensures)
+    listing-printed (a .out .now) _ (c .put-listing .result) (a .map .now) (test .before .refusal .result) (test .before .refusal .ensures .0) (test .if1 .left) (c .put-listing .ensures)
 
 pub list-spec : {M : Type 1} → statement M
 list-spec =

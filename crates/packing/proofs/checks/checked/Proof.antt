@@ -2,7 +2,7 @@
 use mathlib.Core.Path.{_∙_}
 use native.Mathlib.Omega.{arith}
 use borrow.Author.Needs.{needs}
-use Rattle.survey.proofs.Laws.{blank-still}
+use Rattle.checking.proofs.Laws.{blank-still, points-are}
 use Rattle.packing.proofs.Later.{checked-ranged, checked-turns, checked-4, checked-5, checked-6, checked-six, kept-same, kept-on}
 use Rattle.packing.proofs.checks.checked.Statement.{statement}
 use Rattle.packing.proofs.checks.checked.Tie as tie
@@ -58,7 +58,7 @@ returns-3 c =
     let n = c .before .before .before .before .count-points .ensures in
     let m = c .before .count-marks .ensures in (
       checked-6 _ _ _ (p .0) (p .1) _ (d .0) (c .before .before .before .before .before .before .before .before .before .before .before .if1 .left) _ (j .0) (c .before .before .before .before .before .before .if2 .left) _ (n .0) _ (m .0) (omega (arith, c .if3 .taken)) _,
-      kept-same _ _ _ (n .1 .1 ∙ j .1 ∙ d .1),
+      kept-same _ _ _ (n .1 ∙ j .1 ∙ d .1),
     )
 
 finish-requires : tie.Need-finish-requires
@@ -69,8 +69,8 @@ finish-requires c κs =
     let n = c .before .before .before .before .before .before .count-points .ensures in
     let m = c .before .before .before .count-marks .ensures in (
       checked-six _ _ _ (p .0) (p .1) _ (d .0) (c .before .before .before .before .before .before .before .before .before .before .before .before .before .if1 .left) _ (j .0) (c .before .before .before .before .before .before .before .before .if2 .left) _ (n .0) _ (m .0) (omega (arith, c .before .before .if3 .left)),
-      n .0 _ _ (p .0 .half),
-      blank-still _ _ _ (p .2) (n .1 .1 ∙ j .1 ∙ d .1),
+      n .0 ∙ points-are _ _ _ (p .0 .half),
+      blank-still _ _ _ (p .2) (n .1 ∙ j .1 ∙ d .1),
       p .3,
     )
 
@@ -87,7 +87,7 @@ returns-4 c =
     let j = c .before .before .before .before .before .before .before .before .before .before .before .before .before .before .before .before .is-joined .ensures in
     let n = c .before .before .before .before .before .before .before .before .before .before .before .count-points .ensures in
     let f = c .before .before .before .before .finish .ensures in
-    (f .0, kept-on _ _ _ _ (n .1 .1 ∙ j .1 ∙ d .1) (f .1))
+    (f .0, kept-on _ _ _ _ (n .1 ∙ j .1 ∙ d .1) (f .1))
 
 pub checked-spec : {M : Type 1} → statement M
 checked-spec =

@@ -22,7 +22,7 @@ find-crossing-requires c κs =
     let p = c .before .before .before .before .before .before .before .before .before .before .before .before .before .pre in
     let t = c .before .before .before .before .before .before .before .tour .ensures in
     let s = c .before .before .before .seconds .ensures in
-    chart-charted _ _ _ (p .0) _ (chart-made _ _ _ (p .0) _ (p .2) _ (t .0) (t .1) _ (s .0) (s .1))
+    chart-charted _ _ _ (p .0) _ (chart-made _ _ _ (p .0) _ (p .2) _ (t .0) (t .1) _ s)
 
 enum-known-a : tie.Need-enum-known-a
 enum-known-a c = search needs
@@ -36,7 +36,7 @@ write-map-requires c κs =
     let p = f .before .before .before .before .before .before .before .before .before .before .before .before .before .before .pre in
     let t = f .before .before .before .before .before .before .before .before .tour .ensures in
     let s = f .before .before .before .before .seconds .ensures in
-    let C = chart-kept _ _ _ (p .0) _ (chart-made _ _ _ (p .0) _ (p .2) _ (t .0) (t .1) _ (s .0) (s .1)) _ (f .find-crossing .ensures .1) in
+    let C = chart-kept _ _ _ (p .0) _ (chart-made _ _ _ (p .0) _ (p .2) _ (t .0) (t .1) _ s) _ (f .find-crossing .ensures .1) in
     (chart-legible _ _ _ (p .0) _ C, chart-sized _ _ _ (p .0) _ C _ (p .1), p .3)
 
 same-length : tie.Need-same-length
@@ -49,7 +49,7 @@ returns c =
     let t = f .before .before .before .before .before .before .before .before .tour .ensures in
     let s = f .before .before .before .before .seconds .ensures in
     let g = c .before .a .given in
-    (finish-pair _ _ _ (p .0) _ (chart-made _ _ _ (p .0) _ (p .2) _ (t .0) (t .1) _ (s .0) (s .1)) _ (f .find-crossing .ensures .0) _ _ (g .1) _, chart-kept-all _ _ _ (p .0) _ (p .2) _ (t .0) (t .1) _ (s .0) (s .1) _ (f .find-crossing .ensures .1))
+    (finish-pair _ _ _ (p .0) _ (chart-made _ _ _ (p .0) _ (p .2) _ (t .0) (t .1) _ s) _ (f .find-crossing .ensures .0) _ _ (g .1) _, chart-kept-all _ _ _ (p .0) _ (p .2) _ (t .0) (t .1) _ s _ (f .find-crossing .ensures .1))
 
 same-length-2 : tie.Need-same-length-2
 same-length-2 c = search needs
@@ -63,11 +63,11 @@ returns-2 c =
     let p = f .before .before .before .before .before .before .before .before .before .before .before .before .before .before .pre in
     let t = f .before .before .before .before .before .before .before .before .tour .ensures in
     let s = f .before .before .before .before .seconds .ensures in
-    let C = chart-made _ _ _ (p .0) _ (p .2) _ (t .0) (t .1) _ (s .0) (s .1) in
+    let C = chart-made _ _ _ (p .0) _ (p .2) _ (t .0) (t .1) _ s in
     let D = chart-kept _ _ _ (p .0) _ C _ (f .find-crossing .ensures .1) in
     let m = c .before .before .write-map .ensures in
     let g = c .before .before .before .before .before .enum-told .given in
-    (finish-none _ _ _ (p .0) _ C _ (f .find-crossing .ensures .0) (g .1) _ (p .1) _ D _ _ _ (m .0) (m .1), chart-kept-all _ _ _ (p .0) _ (p .2) _ (t .0) (t .1) _ (s .0) (s .1) _ (f .find-crossing .ensures .1))
+    (finish-none _ _ _ (p .0) _ C _ (f .find-crossing .ensures .0) (g .1) _ (p .1) _ D _ _ _ (m .0) (m .1), chart-kept-all _ _ _ (p .0) _ (p .2) _ (t .0) (t .1) _ s _ (f .find-crossing .ensures .1))
 
 pub finish-spec : {M : Type 1} → statement M
 finish-spec =

@@ -1,8 +1,6 @@
 -- `pmap::desk::pmap_pack` meets its contract. Assumes nothing.
 use borrow.Author.Needs.{needs}
-use lib.ListN.{length}
-use Rattle.survey.specs.Lent.{lent}
-use Rattle.pmap.proofs.Drawings.{pack-small, pack-status, pack-cell}
+use Rattle.pmap.proofs.Drawings.{pack-small, pack-returns}
 use Rattle.pmap.proofs.desk.pmap_pack.Statement.{statement}
 use Rattle.pmap.proofs.desk.pmap_pack.Tie as tie
 
@@ -12,8 +10,7 @@ pack-requires c κs = search needs
 give-length-requires : tie.Need-give-length-requires
 give-length-requires c κs =
     let k = c .before .before .before .before .before in
-    let p = k .pack .ensures in
-    pack-small _ _ _ (k .pack .result) (p .0) (p .1 .0)
+    pack-small _ _ _ _ _ (k .pack .result) (k .pack .ensures)
 
 same-length : tie.Need-same-length
 same-length c = search needs
@@ -24,19 +21,8 @@ same-length-2 c = search needs
 returns : tie.Need-returns
 returns c =
     let k = c .before .before .before .before .before .before in
-    let a = k .before .before .before .before .before .before .before .args in
-    let D = lent (a .turning .now) (a .marks .now) (a .start) in
-    let p = k .pack .ensures in
-    let g = c .give-length .ensures in (
-      pack-status D (length (a .work .now)) (length (a .out .now)) (k .pack .result) (c .give-length .result) (g .0) (p .0) (p .1 .0),
-      (
-        p .1 .1 .0,
-        (
-          p .1 .1 .1,
-          pack-cell D (length (a .work .now)) (length (a .out .now)) (k .pack .result) _ (a .length .now) (g .1) (p .0),
-        ),
-      ),
-    )
+    let g = c .give-length .ensures in
+    pack-returns _ _ _ _ _ (k .pack .result) (k .pack .ensures) _ _ _ (g .0) (g .1)
 
 pub pmap-pack-spec : {M : Type 1} → statement M
 pmap-pack-spec =

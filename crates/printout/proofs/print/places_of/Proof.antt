@@ -3,7 +3,7 @@ use mathlib.Core.Path.{sym}
 use native.Mathlib.Omega.{arith}
 use lib.Seq.{length-take-le}
 use borrow.Author.Needs.{needs}
-use Rattle.survey.specs.Lent.{lent}
+use Rattle.drawing.specs.Laid.{lent}
 use Rattle.listing.proofs.Texts.{stands-as}
 use Rattle.printout.proofs.Mapped.{Mapped, map-mapped, crossing-prints, declined-prints}
 use Rattle.printout.proofs.print.places_of.Statement.{statement}
@@ -13,7 +13,7 @@ use Rattle.printout.proofs.print.places_of.Tie as tie
 mapped : (c : tie.After-n) → Mapped (lent (c .before .before .before .before .before .before .before .before .before .args .turning .now) (c .before .before .before .before .before .before .before .before .before .args .marks .now) 0) (c .n .given .0 .0) (c .before .before .before .before .pack .last .1 .1 .1 .1 .0)
 mapped c =
     let p = c .before .before .before .before .pack in
-    map-mapped _ _ _ (omega arith) (omega arith) (p .result) (p .ensures .0) _ _ _ (c .n .given .1) (p .ensures .1 .1 .0)
+    map-mapped _ _ _ (omega arith) (omega arith) (p .result) (p .ensures .answers) _ _ _ (c .n .given .1) (p .ensures .output)
 
 slice-aggregate-pack : tie.Need-slice-aggregate-pack
 slice-aggregate-pack c = search needs
@@ -57,7 +57,7 @@ returns-2 c =
     let packs = told .before .before .before .before in
     let p = packs .pack in
     let a = packs .before .before .before .before .before .args in
-    stands-as _ _ _ _ _ (crossing-prints (lent (a .turning .now) (a .marks .now) 0) _ _ (omega arith) (omega arith) (p .result) (p .ensures .0) _ _ (told .enum-told .given .1)) (c .refused .ensures)
+    stands-as _ _ _ _ _ (crossing-prints (lent (a .turning .now) (a .marks .now) 0) _ _ (omega arith) (omega arith) (p .result) (p .ensures .answers) _ _ (told .enum-told .given .1)) (c .refused .ensures)
 
 returns-3 : tie.Need-returns-3
 returns-3 c =
@@ -65,7 +65,7 @@ returns-3 c =
     let packs = k .before .before .before .before in
     let p = packs .pack in
     let a = packs .before .before .before .before .before .args in
-    stands-as _ _ _ _ _ (declined-prints (lent (a .turning .now) (a .marks .now) 0) _ _ (omega arith) (omega arith) (p .result) (p .ensures .0) _ (k .k .given .1)) (c .refused2 .ensures)
+    stands-as _ _ _ _ _ (declined-prints (lent (a .turning .now) (a .marks .now) 0) _ _ (omega arith) (omega arith) (p .result) (p .ensures .answers) _ (k .k .given .1)) (c .refused2 .ensures)
 
 pub places-of-spec : {M : Type 1} → statement M
 places-of-spec =

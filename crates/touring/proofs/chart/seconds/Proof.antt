@@ -1,15 +1,15 @@
 -- `touring::chart::seconds` meets its contract. The loop keeps `Telling`: of the positions passed it is told which are second. Assumes nothing.
 use Prim.Native.Nat.{_-_}
 use borrow.Author.Needs.{needs}
-use Rattle.touring.proofs.Touring.{Telling, telling-all, telling-flag, telling-here, telling-length, telling-more, telling-outside, telling-place, telling-scaled, telling-start, telling-stored, telling-sum}
+use Rattle.touring.proofs.Touring.{Telling, telling-all, telling-flag, telling-here, telling-length, telling-more, telling-place, telling-scaled, telling-start, telling-stored, telling-sum}
 use Rattle.touring.proofs.chart.seconds.Statement.{statement}
 use Rattle.touring.proofs.chart.seconds.Tie as tie
 
 abbrev Inv-loop : tie.InvT-loop
-Inv-loop work₀ n p₀ work p = Telling n work₀ p work
+Inv-loop work₀ places p₀ work p = Telling places work₀ p work
 
 abbrev μ-loop : tie.MeasureT-loop
-μ-loop work₀ n p₀ work p = n - p
+μ-loop work₀ places p₀ work p = places - p
 
 loop-holds : tie.Need-loop-holds Inv-loop μ-loop
 loop-holds c = search telling-start
@@ -63,7 +63,7 @@ same-length : tie.Need-same-length Inv-loop μ-loop
 same-length c = search telling-length
 
 returns : tie.Need-returns Inv-loop μ-loop
-returns c = (search telling-all, search telling-outside)
+returns c = search telling-all
 
 pub seconds-spec : {M : Type 1} → statement M
 seconds-spec =

@@ -4,24 +4,24 @@ use Prim.Native.Nat.{_-_}
 use mathlib.Core.Logic.{⊎-elim}
 use Prim.Native.Nat.{_*_}
 use borrow.Author.Needs.{needs}
-use Rattle.writing.proofs.Filling.{Gathering, gathering-all, gathering-at, gathering-count, gathering-flag, gathering-index, gathering-length, gathering-outside, gathering-pass, gathering-scaled, gathering-start, gathering-sum, gathering-take, lettering-fits}
+use Rattle.writing.proofs.Filling.{Gathering, gathering-all, gathering-at, gathering-count, gathering-flag, gathering-index, gathering-length, gathering-pass, gathering-scaled, gathering-start, gathering-sum, gathering-take, lettering-sizes}
 use Rattle.writing.proofs.write.write_b.Statement.{statement}
 use Rattle.writing.proofs.write.write_b.Tie as tie
 
 abbrev Inv-loop : tie.InvT-loop
-Inv-loop marks work out₀ at v n p₀ j₀ out p j = Gathering marks work v out₀ at p j out
+Inv-loop marks work out₀ at family places p₀ j₀ out p j = Gathering marks work family out₀ at p j out
 
 abbrev μ-loop : tie.MeasureT-loop
-μ-loop marks work out₀ at v n p₀ j₀ out p j = 2 * length marks - p
+μ-loop marks work out₀ at family places p₀ j₀ out p j = 2 * length marks - p
 
-mul-n : tie.Need-mul-n Inv-loop μ-loop
-mul-n c = search lettering-fits
+mul-places : tie.Need-mul-places Inv-loop μ-loop
+mul-places c = search lettering-sizes
 
 loop-holds : tie.Need-loop-holds Inv-loop μ-loop
 loop-holds c = search gathering-start
 
-family-bit-requires : tie.Need-family-bit-requires Inv-loop μ-loop
-family-bit-requires c κs = search needs
+is-of-requires : tie.Need-is-of-requires Inv-loop μ-loop
+is-of-requires c κs = search needs
 
 mul-set-bit : tie.Need-mul-set-bit Inv-loop μ-loop
 mul-set-bit c = search gathering-at
@@ -53,8 +53,8 @@ loop-less c = search needs
 loop-again : tie.Need-loop-again Inv-loop μ-loop
 loop-again c =
     ⊎-elim
-    (λ w. gathering-take _ _ (c .before .before .before .before .before .before .before .pre .0) _ (c .before .before .before .before .before .before .before .pre .1) _ _ _ _ _ (c .before .before .before .loop .inv) (c .before .before .loop-test .taken) _
-    (c .before .family-bit .ensures .0) (w .0 .taken) _ _ _ (w .7) (w .3 .ensures) (w .6))
+    (λ w. gathering-take _ _ (c .before .before .before .before .before .before .before .pre .0) _ _ _ _ _ _ (c .before .before .before .loop .inv) (c .before .before .loop-test .taken) _
+    (c .before .is-of .ensures) (w .0 .taken) _ _ _ (w .7) (w .3 .ensures) (w .6))
     (λ w. search gathering-pass)
     (c .if1 .came)
 
@@ -62,7 +62,7 @@ same-length : tie.Need-same-length Inv-loop μ-loop
 same-length c = search gathering-length
 
 returns : tie.Need-returns Inv-loop μ-loop
-returns c = (search gathering-all, search gathering-outside)
+returns c = search gathering-all
 
 pub write-b-spec : {M : Type 1} → statement M
 write-b-spec =
@@ -70,9 +70,9 @@ write-b-spec =
     (tie.spec
     Inv-loop
     μ-loop
-    mul-n
+    mul-places
     loop-holds
-    family-bit-requires
+    is-of-requires
     mul-set-bit
     add-set-bit
     add-set-bit-2

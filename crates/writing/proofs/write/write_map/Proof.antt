@@ -62,7 +62,7 @@ write-b-requires c κs =
     let z = h .before .before .before .before in
     let l = z .before .before in
     let p = l .before .before .before .before .before .before .pre in
-    (p .0, search needs, map-b _ _ _ (p .0) (p .1) _ _ _ (l .before .before .bytes-for .ensures .0) (l .before .bytes-for2 .ensures .0) (l .bytes-for3 .ensures .0) _ (p .2) _ _ (z .zero .ensures) (search far-all) _ _ _ (h .write-header .ensures) _ (a .write-a .ensures .0) (a .write-a .ensures .1))
+    (p .0, map-b _ _ _ (p .0) (p .1) _ _ _ (l .before .before .bytes-for .ensures .0) (l .before .bytes-for2 .ensures .0) (l .bytes-for3 .ensures .0) _ (p .2) _ _ (z .zero .ensures) (search far-all) _ _ _ (h .write-header .ensures) _ (a .write-a .ensures))
 
 write-b-requires-2 : tie.Need-write-b-requires-2
 write-b-requires-2 c κs =
@@ -72,7 +72,7 @@ write-b-requires-2 c κs =
     let z = h .before .before .before .before in
     let l = z .before .before in
     let p = l .before .before .before .before .before .before .pre in
-    (p .0, search needs, map-s _ _ _ (p .0) (p .1) _ _ _ (l .before .before .bytes-for .ensures .0) (l .before .bytes-for2 .ensures .0) (l .bytes-for3 .ensures .0) _ (p .2) _ _ (z .zero .ensures) (search far-all) _ _ _ (h .write-header .ensures) _ (a .write-a .ensures .0) (a .write-a .ensures .1) _ (b .write-b .ensures .0) (b .write-b .ensures .1))
+    (p .0, map-s _ _ _ (p .0) (p .1) _ _ _ (l .before .before .bytes-for .ensures .0) (l .before .bytes-for2 .ensures .0) (l .bytes-for3 .ensures .0) _ (p .2) _ _ (z .zero .ensures) (search far-all) _ _ _ (h .write-header .ensures) _ (a .write-a .ensures) _ (b .write-b .ensures))
 
 same-length : tie.Need-same-length
 same-length c = search needs
@@ -86,7 +86,7 @@ returns c =
     let z = h .before .before .before .before in
     let l = z .before .before in
     let p = l .before .before .before .before .before .before .pre in
-    (map-long _ _ _ (p .0) (p .1) _ _ _ (l .before .before .bytes-for .ensures .0) (l .before .bytes-for2 .ensures .0) (l .bytes-for3 .ensures .0), map-written _ _ _ (p .0) (p .1) _ _ _ (l .before .before .bytes-for .ensures .0) (l .before .bytes-for2 .ensures .0) (l .bytes-for3 .ensures .0) _ (p .2) _ _ (z .zero .ensures) (search far-all) _ _ _ (h .write-header .ensures) _ (a .write-a .ensures .0) (a .write-a .ensures .1) _ (b .write-b .ensures .0) (b .write-b .ensures .1) _ (s .write-b2 .ensures .0) (s .write-b2 .ensures .1) refl refl refl)
+    (map-long _ _ _ (p .0) (p .1) _ _ _ (l .before .before .bytes-for .ensures .0) (l .before .bytes-for2 .ensures .0) (l .bytes-for3 .ensures .0), map-written _ _ _ (p .0) (p .1) _ _ _ (l .before .before .bytes-for .ensures .0) (l .before .bytes-for2 .ensures .0) (l .bytes-for3 .ensures .0) _ (p .2) _ _ (z .zero .ensures) (search far-all) _ _ _ (h .write-header .ensures) _ (a .write-a .ensures) _ (b .write-b .ensures) _ (s .write-b2 .ensures) refl refl refl)
 
 pub write-map-spec : {M : Type 1} → statement M
 write-map-spec =

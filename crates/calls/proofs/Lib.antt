@@ -1,4 +1,0 @@
--- The checks of a call's own number: the laws.
-pub mod Refused
-pub mod Passed
-pub mod Moved

@@ -1,2 +1,0 @@
--- Opening a packed map: the laws.
-pub mod Checks

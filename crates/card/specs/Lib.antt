@@ -1,2 +1,0 @@
--- Opening a packed map: what an answer means.
-pub mod Answers

@@ -1,0 +1,47 @@
+-- A drawing lent as slices, and the working list lent beside it.
+--
+-- next ts h        == entry h of the turning list
+-- pointsIn ts      == how many points the turning list has
+-- Ranged ts        == every entry is below the list's length
+-- Binary ms        == every mark is 0 or 1
+-- Differ ts        == no two entries are equal
+-- Turns ts         == the turning list is a permutation of its ends
+-- Blank k work     == the working list has at least k entries, and its first k are 0
+-- Kept k old new   == the lists are equally long, and equal from entry k on
+-- Assumes nothing.
+use mathlib.Core.Path.{_≡_}
+use mathlib.Core.Logic.{_≢_}
+use mathlib.Core.List.{List}
+use Prim.Native.Nat.{ℕ, _<_, _≤_}
+use lib.Dec.{eqb}
+use lib.ListN.{length, getD}
+use Rattle.count.specs.Below.{pick}
+use Rattle.orbits.specs.Cycles.{Permutes, cycles}
+
+abbrev pub next : List ℕ → ℕ → ℕ
+next ts h = getD ts h 0
+
+-- 01: "A point is one cycle of that list. n is the number of points. With m = 0 there is one point."
+unfoldable pub pointsIn : List ℕ → ℕ
+unfolding cycles
+pointsIn ts = pick (eqb (length ts) 0) 1 (cycles (length ts) (next ts))
+
+pub record Ranged (ts : List ℕ) : Type 0 where
+  pub below : (h : ℕ) → h < length ts → next ts h < length ts
+
+pub record Binary (ms : List ℕ) : Type 0 where
+  pub small : (e : ℕ) → e < length ms → getD ms e 0 ≤ 1
+
+pub record Differ (ts : List ℕ) : Type 0 where
+  pub differ : (i j : ℕ) → i < j → j < length ts → next ts i ≢ next ts j
+
+abbrev pub Turns : List ℕ → Type 0
+Turns ts = Permutes (length ts) (next ts)
+
+pub record Blank (k : ℕ) (work : List ℕ) : Type 0 where
+  pub room : k ≤ length work
+  pub zero : (i : ℕ) → i < k → getD work i 0 ≡ 0
+
+pub record Kept (k : ℕ) (old new : List ℕ) : Type 0 where
+  pub same-length : length new ≡ length old
+  pub rest : (i : ℕ) → k ≤ i → getD new i 0 ≡ getD old i 0

@@ -1,0 +1,124 @@
+-- Checks 1 to 7: packing gives the number of the first that fails.
+--
+-- pack-refusals   == packing gives the number of the first check that fails, or the drawing's bytes
+-- pack-accepts    == no refusal exactly if there is room and the drawing passes 1 to 7
+-- pack-crosses    == refusal 7 exactly if there is room, the drawing passes 1 to 6, and two unmarked borders alternate
+-- Assumes nothing.
+use mathlib.Core.Path.{_≡_, refl, sym, _∙_}
+use mathlib.Core.Logic.{_⊎_, inl, inr, _↔_}
+use mathlib.Core.Bool.{Bool, true, false, not}
+use mathlib.Core.List.{List, [], _∷_}
+use Prim.Native.Nat.{ℕ, _*_, _≤_}
+use native.Mathlib.Omega.{arith}
+use Rattle.count.specs.Below.{Decides}
+use Rattle.count.proofs.Logic.{true-or-false}
+use Rattle.count.proofs.Decides.{decides-le, decides-both, decides-not, decides-refutes, decides-as}
+use Rattle.drawing.specs.Drawing.{Drawing, borders}
+use Rattle.drawing.specs.Checks.{LengthsFit, lengthsFit, InRange, inRange, Distinct, distinct, joined, fewMarks, Crossing, Flat, crosses}
+use Rattle.drawing.specs.Checks.{PassesSix, PassesSeven}
+use Rattle.drawing.specs.Session.{answer, refused}
+use Rattle.drawing.proofs.Checks.{lengths-decides, range-decides, distinct-decides, few-decides}
+use Rattle.drawing.proofs.Labels.{joined-decides}
+use Rattle.drawing.proofs.Crossing.{crosses-decides}
+use Rattle.drawing.proofs.Ends.{turn-permutes}
+use Rattle.format.specs.Bytes.{longest}
+use Rattle.format.specs.Refusals.{FirstFails, InOrder}
+use Rattle.format.specs.Pack.{packedBytes, Room, roomFits, PackCheck, packRefusal, packOf}
+use Rattle.format.proofs.Chain.{chain, Chain, Hold, hold-none, hold-from, chain-zero, chain-in-order}
+
+room-decides : (D : Drawing) (work out : ℕ) → Decides (roomFits D work out) (Room D work out)
+room-decides D work out =
+    decides-as (λ t. record { working = t .0; output = t .1 }) (λ r. (r .working, r .output))
+    (decides-both (decides-le (6 * borders D) work) (decides-le longest out))
+
+flat-decides : (D : Drawing) → Decides (not (crosses D)) (Flat D)
+flat-decides D = decides-as (λ n a b c. n (a, b, c)) (λ f c. f (c .0) (c .1) (c .2)) (decides-not (crosses-decides D))
+
+module _ (D : Drawing) (work out : ℕ) where
+  tests : List Bool
+  tests =
+      lengthsFit D ∷ roomFits D work out ∷ inRange D ∷ distinct D ∷ joined D ∷ fewMarks D ∷ not (crosses D) ∷ []
+
+  refusal-chain : packRefusal D work out ≡ chain tests 1
+  unfolding packRefusal tests chain
+  refusal-chain = refl
+
+  -- that marked borders join all points is tested where entries are in range and distinct
+  pack-chain : Chain (PackCheck D work out) 1 tests
+  unfolding tests
+  pack-chain = (
+    lengths-decides D,
+    λ l. (
+      room-decides D work out,
+      λ o. (
+        range-decides D,
+        λ r. (
+          distinct-decides D,
+          λ d. (joined-decides D (turn-permutes D r d), λ j. (few-decides D, λ f. (flat-decides D, λ z. tt))),
+        ),
+      ),
+    ),
+  )
+
+  pub pack-refusals : InOrder (PackCheck D work out) 1 7 (packedBytes D) (packOf D work out)
+  unfolding packOf tests
+  pack-refusals =
+      rw refusal-chain (chain-in-order (PackCheck D work out) 1 7 tests (packedBytes D) (omega arith) (omega arith) pack-chain)
+
+  -- checks 1 to 6, as one record
+  six-hold : Hold (PackCheck D work out) 1 7 → Room D work out × PassesSix D
+  six-hold h = (
+    h 2 (omega arith) (omega arith),
+    record {
+      lengths = h 1 (omega arith) (omega arith);
+      range = h 3 (omega arith) (omega arith);
+      entries = h 4 (omega arith) (omega arith);
+      joins = h 5 (omega arith) (omega arith);
+      few = h 6 (omega arith) (omega arith);
+    },
+  )
+
+  hold-six : (e : ℕ) → Room D work out → PassesSix D → Hold (PackCheck D work out) 7 e → Hold (PackCheck D work out) 1 e
+  hold-six e room six rest =
+      let P : ℕ → Type 0 = PackCheck D work out in
+      hold-from P 1 e (six .lengths)
+      (hold-from P 2 e room
+      (hold-from P 3 e (six .range) (hold-from P 4 e (six .entries) (hold-from P 5 e (six .joins) (hold-from P 6 e (six .few) rest)))))
+
+  pub pack-accepts : (packRefusal D work out ≡ 0) ↔ (Room D work out × PassesSeven D)
+  unfolding tests
+  pack-accepts =
+      let P : ℕ → Type 0 = PackCheck D work out in
+      let none = chain-zero P 1 tests (omega arith) pack-chain in (
+        λ e.
+            let all = none .0 (sym refusal-chain ∙ e) in
+            let six = six-hold (λ j l h. all j l (omega arith)) in
+            (six .0, record { six = six .1; flat = all 7 (omega arith) (omega arith) }),
+        λ p.
+            refusal-chain
+            ∙ none .1 (hold-six 8 (p .0) (p .1 .six) (hold-from P 7 8 (p .1 .flat) (hold-none P 8 8 (omega arith)))),
+      )
+
+  pub pack-crosses : (packOf D work out ≡ refused 7) ↔ (Room D work out × PassesSix D × ((a : ℕ) × (b : ℕ) × Crossing D a b))
+  pack-crosses =
+      let P : ℕ → Type 0 = PackCheck D work out in
+      let seven = pack-refusals .refuses 7 in (
+        λ e.
+            let F : FirstFails P 1 7 = seven .0 e .2 in
+            let six = six-hold (F .before) in (
+              six .0,
+              six .1,
+              elim (true-or-false (crosses D)) [
+                | inl t ↦ crosses-decides D .sound t
+                | inr f ↦ absurd (F .fails (λ a b c. decides-refutes (crosses-decides D) f (a, b, c)))
+              ],
+            ),
+        λ c. seven .1 (
+          omega arith,
+          omega arith,
+          record {
+            before = hold-six 7 (c .0) (c .1) (hold-none P 7 7 (omega arith));
+            fails = λ flat. flat (c .2 .0) (c .2 .1) (c .2 .2);
+          },
+        ),
+      )

@@ -1,3 +1,0 @@
--- The joining border of two points: the laws.
-pub mod Joins
-pub mod Answered

@@ -1,3 +1,0 @@
--- Check 5: the laws.
-pub mod Queue
-pub mod Reach

@@ -1,2 +1,0 @@
--- Check 5: what its contracts cite.
-pub mod Queue

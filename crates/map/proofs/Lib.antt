@@ -1,0 +1,5 @@
+-- Moves and numbers on a packed map: the laws.
+pub mod Moved
+pub mod Turns
+pub mod Cells
+pub mod Joins

@@ -1,0 +1,39 @@
+-- `map::moves::cross` meets its contract. Assumes nothing.
+use Rattle.format.specs.Calls.{crossOf}
+use Rattle.opening.proofs.Passed.{place-least}
+use Rattle.walking.proofs.Checked.{place-position}
+use Rattle.map.proofs.Moved.{move-declines, cross-answers}
+use borrow.Author.Needs.{needs}
+use Rattle.map.proofs.moves.cross.Statement.{statement}
+use Rattle.map.proofs.moves.cross.Tie as tie
+
+place-refusal-requires : tie.Need-place-refusal-requires
+place-refusal-requires c κs = search needs
+
+returns : tie.Need-returns
+unfolding crossOf
+returns c = search move-declines
+
+sub-crossing-at : tie.Need-sub-crossing-at
+sub-crossing-at c = search place-least
+
+crossing-at-requires : tie.Need-crossing-at-requires
+crossing-at-requires c κs = search place-position
+
+add-other : tie.Need-add-other
+add-other c = search needs
+
+returns-2 : tie.Need-returns-2
+unfolding crossOf
+returns-2 c = search cross-answers
+
+pub cross-spec : {M : Type 1} → statement M
+cross-spec =
+    tie.close
+    (tie.spec
+    place-refusal-requires
+    returns
+    sub-crossing-at
+    crossing-at-requires
+    add-other
+    returns-2)

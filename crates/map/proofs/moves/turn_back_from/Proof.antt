@@ -1,0 +1,27 @@
+-- `map::moves::turn_back_from` meets its contract. Assumes nothing.
+use Rattle.map.proofs.Turns.{back-start, back-opened, back-on}
+use borrow.Author.Needs.{needs}
+use Rattle.map.proofs.moves.turn_back_from.Statement.{statement}
+use Rattle.map.proofs.moves.turn_back_from.Tie as tie
+
+returns : tie.Need-returns
+returns c = search back-start
+
+sub-mate-at : tie.Need-sub-mate-at
+sub-mate-at c = search needs
+
+mate-at-requires : tie.Need-mate-at-requires
+mate-at-requires c κs = search needs
+
+add-result : tie.Need-add-result
+add-result c = search needs
+
+returns-2 : tie.Need-returns-2
+returns-2 c = search back-on
+
+returns-3 : tie.Need-returns-3
+returns-3 c = search back-opened
+
+pub turn-back-from-spec : {M : Type 1} → statement M
+turn-back-from-spec =
+    tie.close (tie.spec returns sub-mate-at mate-at-requires add-result returns-2 returns-3)

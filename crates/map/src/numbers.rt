@@ -1,0 +1,105 @@
+// Points and areas: those of a place, their first places, and how many places they have.
+use layout::bits_a;
+use opening::Area;
+use opening::AreaAnswer;
+use opening::Cell;
+use opening::Count;
+use opening::Place;
+use opening::PlaceAnswer;
+use opening::Point;
+use opening::PointAnswer;
+use opening::cell_refusal;
+use opening::place_refusal;
+use sizing::size_at;
+use walking::area_of;
+use walking::first_at;
+use walking::point_of;
+ghost use mathlib.Core.Path.{_≡_};
+ghost use Rattle.drawing.specs.Drawing.{Kind};
+ghost use Rattle.format.specs.Calls.{pointOf, areaOf, firstOf, sizeOf, neighboursOf};
+ghost use Rattle.opening.specs.Answers.{placeMeans, pointMeans, areaMeans, countMeans};
+ghost use Rattle.opening.specs.Cells.{kindOf, numberOfCell};
+
+// The point that a place is about.
+pub fn point_at(map: &[u8], place: Place) -> PointAnswer
+    ensures { λ r. ⌜ pointMeans r ≡ pointOf (now (map .entry)) (place .0) ⌝ }
+{
+    let at = place.0;
+    let k = place_refusal(map, place);
+    if k != 0 {
+        return PointAnswer::Declined(k);
+    }
+    PointAnswer::Is(point_of(map, at - 1))
+}
+
+// The area that a place is on the walk of.
+pub fn area_at(map: &[u8], place: Place) -> AreaAnswer
+    ensures { λ r. ⌜ areaMeans r ≡ areaOf (now (map .entry)) (place .0) ⌝ }
+{
+    let at = place.0;
+    let k = place_refusal(map, place);
+    if k != 0 {
+        return AreaAnswer::Declined(k);
+    }
+    AreaAnswer::Is(area_of(map, at - 1))
+}
+
+// The first place of a point: 1 for point 1, else the place after the ( that reaches it; 0 if m = 0.
+pub fn point_first(map: &[u8], point: Point) -> PlaceAnswer
+    ensures { λ r. ⌜ placeMeans r ≡ firstOf (now (map .entry)) Kind.point (point .0) ⌝ }
+{
+    first_of(map, Cell::Point(point))
+}
+
+// The first place of an area: its lowest; 0 if m = 0.
+pub fn area_first(map: &[u8], area: Area) -> PlaceAnswer
+    ensures { λ r. ⌜ placeMeans r ≡ firstOf (now (map .entry)) Kind.area (area .0) ⌝ }
+{
+    first_of(map, Cell::Area(area))
+}
+
+// How many places have this point.
+pub fn degree(map: &[u8], point: Point) -> Count
+    ensures { λ r. ⌜ countMeans r ≡ sizeOf (now (map .entry)) Kind.point (point .0) ⌝ }
+{
+    size_of(map, Cell::Point(point))
+}
+
+// How many places have this area.
+pub fn sides(map: &[u8], area: Area) -> Count
+    ensures { λ r. ⌜ countMeans r ≡ sizeOf (now (map .entry)) Kind.area (area .0) ⌝ }
+{
+    size_of(map, Cell::Area(area))
+}
+
+// An area's neighbour count is its number of sides.
+pub fn neighbours(map: &[u8], area: Area) -> Count
+    ensures { λ r. ⌜ countMeans r ≡ neighboursOf (now (map .entry)) (area .0) ⌝ }
+{
+    sides(map, area)
+}
+
+// The first place of a point or an area; an empty map has none.
+fn first_of(map: &[u8], cell: Cell) -> PlaceAnswer
+    ensures { λ r. ⌜ placeMeans r ≡ firstOf (now (map .entry)) (kindOf cell) (numberOfCell cell) ⌝ }
+{
+    let k = cell_refusal(map, cell);
+    if k != 0 {
+        return PlaceAnswer::Declined(k);
+    }
+    if bits_a(map) == 0 {
+        return PlaceAnswer::At(Place(0));
+    }
+    PlaceAnswer::At(Place(first_at(map, cell) + 1))
+}
+
+// How many places a point or an area has.
+fn size_of(map: &[u8], cell: Cell) -> Count
+    ensures { λ r. ⌜ countMeans r ≡ sizeOf (now (map .entry)) (kindOf cell) (numberOfCell cell) ⌝ }
+{
+    let k = cell_refusal(map, cell);
+    if k != 0 {
+        return Count::Declined(k);
+    }
+    Count::Of(size_at(map, cell))
+}

@@ -1,0 +1,108 @@
+-- Rows 13 to 15 of the table: opening's number, then that of the call's own number, or 0.
+--
+-- inRange i n     == i is one of 1 to n
+-- in-range, out-of-range, range-has == the test and what it tests
+-- after-refused, after-own == opening's number where it is not 0, else the call's own
+-- place-refused, place-zero, place-far, place-in == what `place_refusal` answers
+-- cells-points, cells-areas == how many points and areas there are
+-- number-zero-not, number-tests == whether there is a point (area) k
+-- cell-refused, cell-in, cell-out == what `cell_refusal` answers
+-- Assumes nothing.
+use mathlib.Core.Path.{_≡_, refl, sym, ap, ap₂, _∙_}
+use mathlib.Core.Bool.{Bool, true, false, _&&_}
+use mathlib.Core.List.{List}
+use Prim.Native.Nat.{ℕ, zero, suc, _+_, _-_, _<_, _≤_}
+use native.Mathlib.Omega.{arith}
+use borrow.Author.Tests.{ltb-true, leb-true, lt-ltb, le-leb}
+use lib.Dec.{ltb, leb}
+use Rattle.count.proofs.Logic.{both, both-left, both-right, not-both}
+use Rattle.drawing.specs.Drawing.{Kind}
+use Rattle.drawing.specs.Book.{noSuch}
+use Rattle.format.specs.Bytes.{sizeIn, bitsA}
+use Rattle.format.specs.Open.{unless, openRefusal}
+use Rattle.format.specs.Calls.{cellsIn, isNumber}
+use Rattle.opening.specs.declared.answers.Point.{Point}
+use Rattle.opening.specs.declared.answers.Area.{Area}
+use Rattle.opening.specs.declared.answers.Cell.{Cell}
+use Rattle.opening.specs.Cells.{kindOf, numberOfCell}
+use Rattle.opening.specs.Checks.{orNext, afterOpening, placeRefusal, cellRefusal}
+
+unfoldable pub inRange : ℕ → ℕ → Bool
+inRange i n = ltb 0 i && leb i n
+
+in-range : (i n : ℕ) → (i ≡ 0 → ⊥) → i ≤ n → inRange i n ≡ true
+unfolding inRange
+in-range i n m l = both (ltb 0 i) (leb i n) (lt-ltb 0 i (omega arith)) (le-leb i n l)
+
+out-of-range : (i n : ℕ) → (1 ≤ i → i ≤ n → ⊥) → inRange i n ≡ false
+unfolding inRange
+out-of-range i n f = not-both (ltb 0 i) (leb i n) (λ h k. f (ltb-true 0 i h) (leb-true i n k))
+
+pub range-has : (i n : ℕ) → inRange i n ≡ true → (1 ≤ i) × (i ≤ n)
+unfolding inRange
+range-has i n h = (ltb-true 0 i (both-left (ltb 0 i) (leb i n) h), leb-true i n (both-right (ltb 0 i) (leb i n) h))
+
+or-next-some : (o k : ℕ) → (o ≡ 0 → ⊥) → o ≡ orNext o k
+or-next-some zero k m = absurd (m refl)
+or-next-some (suc o) k m = refl
+
+module _ (s : List ℕ) where
+  -- ---- opening's number, and the call's own after it
+  after-refused : (t : Bool) (n k : ℕ) → k ≡ openRefusal s → (k ≡ 0 → ⊥) → k ≡ afterOpening s t n
+  unfolding afterOpening
+  after-refused t n k e m = e ∙ or-next-some (openRefusal s) (unless t n 0) (λ z. m (e ∙ z))
+
+  after-own : (t : Bool) (n k : ℕ) → k ≡ openRefusal s → k ≡ 0 → unless t n 0 ≡ afterOpening s t n
+  unfolding afterOpening
+  after-own t n k e z = sym (ap (λ x. orNext x (unless t n 0)) (sym e ∙ z))
+
+  -- ---- places
+  module _ (i k : ℕ) (e : k ≡ openRefusal s) where
+    pub place-refused : (k ≡ 0 → ⊥) → k ≡ placeRefusal s i
+    unfolding placeRefusal inRange
+    place-refused m = after-refused (inRange i (bitsA (sizeIn s))) 13 k e m
+
+    place-not : k ≡ 0 → (1 ≤ i → i ≤ bitsA (sizeIn s) → ⊥) → 13 ≡ placeRefusal s i
+    unfolding placeRefusal inRange
+    place-not z f = ap (λ t. unless t 13 0) (sym (out-of-range i (bitsA (sizeIn s)) f)) ∙ after-own (inRange i (bitsA (sizeIn s))) 13 k e z
+
+    pub place-zero : k ≡ 0 → i ≡ 0 → 13 ≡ placeRefusal s i
+    place-zero z h = place-not z (λ l g. omega arith)
+
+    pub place-far : (n : ℕ) → k ≡ 0 → n ≡ bitsA (sizeIn s) → n < i → 13 ≡ placeRefusal s i
+    place-far n z hn h = place-not z (λ l g. omega arith)
+
+    pub place-in : (n : ℕ) → k ≡ 0 → (i ≡ 0 → ⊥) → n ≡ bitsA (sizeIn s) → i ≤ n → 0 ≡ placeRefusal s i
+    unfolding placeRefusal inRange
+    place-in n z m hn h =
+        ap (λ t. unless t 13 0) (sym (in-range i (bitsA (sizeIn s)) m (omega arith))) ∙ after-own (inRange i (bitsA (sizeIn s))) 13 k e z
+
+  -- ---- points and areas
+  pub cells-points : (c : Cell) (p : Point) (n : ℕ) → c ≡ Cell.Point p → n ≡ sizeIn s .n → n ≡ cellsIn (sizeIn s) (kindOf c)
+  cells-points c p n e h = rw e h
+
+  pub cells-areas : (c : Cell) (a : Area) (k : ℕ) → c ≡ Cell.Area a → k ≡ sizeIn s .m + 2 - sizeIn s .n → k ≡ cellsIn (sizeIn s) (kindOf c)
+  cells-areas c a k e h = rw e h
+
+  -- k is the number of the cell c
+  module _ (c : Cell) (k : ℕ) (is : k ≡ numberOfCell c) where
+    pub number-zero-not : k ≡ 0 → false ≡ isNumber (sizeIn s) (kindOf c) (numberOfCell c)
+    unfolding inRange
+    number-zero-not e = sym (out-of-range (numberOfCell c) (cellsIn (sizeIn s) (kindOf c)) (λ l h. omega arith))
+
+    pub number-tests : (n : ℕ) → (k ≡ 0 → ⊥) → n ≡ cellsIn (sizeIn s) (kindOf c) → leb k n ≡ isNumber (sizeIn s) (kindOf c) (numberOfCell c)
+    number-tests n m e =
+        ap₂ leb is e ∙ ap (λ t. t && leb (numberOfCell c) (cellsIn (sizeIn s) (kindOf c))) (sym (lt-ltb 0 (numberOfCell c) (omega arith)))
+
+  module _ (c : Kind) (k o : ℕ) (e : o ≡ openRefusal s) where
+    pub cell-refused : (o ≡ 0 → ⊥) → o ≡ cellRefusal s c k
+    unfolding cellRefusal
+    cell-refused m = after-refused (isNumber (sizeIn s) c k) (noSuch c) o e m
+
+    pub cell-in : (t : Bool) → o ≡ 0 → t ≡ isNumber (sizeIn s) c k → t ≡ true → 0 ≡ cellRefusal s c k
+    unfolding cellRefusal
+    cell-in t z h y = ap (λ t. unless t (noSuch c) 0) (sym y ∙ h) ∙ after-own (isNumber (sizeIn s) c k) (noSuch c) o e z
+
+    pub cell-out : (r : ℕ) (t : Bool) → o ≡ 0 → t ≡ isNumber (sizeIn s) c k → t ≡ false → r ≡ noSuch c → r ≡ cellRefusal s c k
+    unfolding cellRefusal
+    cell-out r t z h y g = g ∙ ap (λ t. unless t (noSuch c) 0) (sym y ∙ h) ∙ after-own (isNumber (sizeIn s) c k) (noSuch c) o e z

@@ -1,0 +1,16 @@
+-- A point or an area by its number.
+--
+-- kindOf c       == whether the cell c is a point or an area
+-- numberOfCell c == its number
+-- Assumes nothing.
+use Prim.Native.Nat.{ℕ}
+use Rattle.drawing.specs.Drawing.{Kind}
+use Rattle.opening.specs.declared.answers.Cell.{Cell}
+
+abbrev pub kindOf : Cell → Kind
+kindOf (Cell.Point p) = Kind.point
+kindOf (Cell.Area a) = Kind.area
+
+abbrev pub numberOfCell : Cell → ℕ
+numberOfCell (Cell.Point p) = p .0
+numberOfCell (Cell.Area a) = a .0

@@ -1,0 +1,2 @@
+-- The program `places`: laws.
+pub mod Ending

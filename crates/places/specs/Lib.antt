@@ -1,0 +1,2 @@
+-- What the contracts of the program `places` cite.
+pub mod Heard

@@ -1,0 +1,17 @@
+-- `pmap::size::pmap_open` meets its contract. Assumes nothing.
+use borrow.Author.Needs.{needs}
+use Rattle.pmap.proofs.Given.{open-all}
+use Rattle.pmap.proofs.size.pmap_open.Statement.{statement}
+use Rattle.pmap.proofs.size.pmap_open.Tie as tie
+
+open-requires : tie.Need-open-requires
+open-requires c κs = search needs
+
+give-size-requires : tie.Need-give-size-requires
+give-size-requires c κs = search open-all
+
+returns : tie.Need-returns
+returns c = search open-all
+
+pub pmap-open-spec : {M : Type 1} → statement M
+pmap-open-spec = tie.close (tie.spec open-requires give-size-requires returns)

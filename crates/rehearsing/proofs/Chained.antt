@@ -1,0 +1,118 @@
+-- From packing's contract and that of a session to that of a rehearsal. The session on the map is the book's.
+--
+-- packed-session   == a session on the bytes that packing gives is the session on the drawing's book: demand 3, with the checks of a session
+-- Accepted         == packing answered n: the first n bytes of the output are the map
+-- accepted, declined == packing's two outcomes
+-- Packing          == what packing ensures
+-- map-within       == the map stands within the output
+-- session-rehearsed, crossing-rehearsed, declined-rehearsed == what `rehearse` returns
+-- Assumes nothing.
+use mathlib.Core.Path.{_≡_, refl, sym, ap, _∙_}
+use mathlib.Core.List.{List}
+use Prim.Native.Nat.{ℕ, _≤_}
+use native.Mathlib.Omega.{arith}
+use lib.ListN.{length, take, drop, length-append}
+use lib.Seq.{take-at}
+use Rattle.drawing.specs.Drawing.{Drawing}
+use Rattle.drawing.specs.Session.{Answer, answer, refused, numberOf, Outcome}
+use Rattle.format.specs.Pack.{packOf}
+use Rattle.packing.specs.Answers.{packedMeans, lengthOf, written, Packs}
+use Rattle.packing.specs.declared.answers.Packed.{Packed}
+use Rattle.packing.specs.declared.answers.Packed.the-variants as packed
+use Rattle.running.specs.Codes.{callsOf}
+use Rattle.running.specs.Runs.{runOf, ranOf, placeLeft, statusesAfter, answersAfter, ranMeans}
+use Rattle.running.specs.declared.runs.Ran.{Ran}
+use Rattle.running.proofs.Checked.{ran-opens}
+use Rattle.demands.specs.Statements.{Agrees}
+use Rattle.demands.proofs.Demands.{demand-3}
+use Rattle.rehearsing.specs.Answers.{bookRanOf, afterPacking, rehearsalOf, Lists, rehearsed, Rehearses}
+use Rattle.rehearsing.specs.declared.chain.Rehearsed.the-variants as the-case
+
+pub packed-session : (D : Drawing) (w o : ℕ) (s : List ℕ) → packOf D w o ≡ answer s
+    → (i : ℕ) (ks : List ℕ) (k l : ℕ) → ranOf s i ks k l ≡ bookRanOf D i ks k l
+unfolding bookRanOf
+packed-session D w o s e i ks k l =
+    let A : Agrees D s = demand-3 D w o s e in
+    ran-opens s i ks k l (A .opens .passes) ∙ ap (runOf ks k l) (A .sessions .same i (callsOf ks))
+
+-- ---- packing's two outcomes
+record Accepted (a : Answer (List ℕ)) (n : ℕ) (new : List ℕ) : Type 0 where
+  pub map : List ℕ
+  pub is : a ≡ answer map
+  pub within : n ≤ length new
+  pub bytes : take n new ≡ map
+
+accepted : (n : ℕ) (old new : List ℕ) (a : Answer (List ℕ)) → answer n ≡ lengthOf a → new ≡ written a old → Accepted a n new
+accepted n old new (answer s) e h =
+    let l : n ≡ length s = cc in
+    record {
+      map = s;
+      is = refl;
+      within = omega (arith, l, ap length h, length-append s (drop (length s) old));
+      bytes = ap (take n) h ∙ take-at s (drop (length s) old) n (sym l);
+    }
+accepted n old new (refused j) e h = let z : _≡_ {A = ℕ} 0 1 = cc in absurd (omega arith)
+
+declined : (j : ℕ) (a : Answer (List ℕ)) → refused j ≡ lengthOf a → a ≡ refused j
+declined j (answer s) e = let z : _≡_ {A = ℕ} 0 1 = cc in absurd (omega arith)
+declined j (refused i) e = cc
+
+-- ---- what `rehearse` returns
+-- what packing ensures, of the lists of a rehearsal
+pub record Packing (D : Drawing) (old : Lists) (work out : List ℕ) (r : Packed) : Type 0 where
+  pub packs : Packs D (old .work) work (old .out) out (packedMeans r)
+
+module _ {D : Drawing} {old : Lists} {work out : List ℕ} {r : Packed} (P : Packing D old work out r) where
+  abbrev packing : Answer (List ℕ)
+  packing = packOf D (length (old .work)) (length (old .out))
+
+  accepted-here : (n : ℕ) → r ≡ packed.Length n → Accepted packing n out
+  accepted-here n e = accepted n (old .out) out packing (sym (ap (λ p. packedMeans p .says) e) ∙ P .packs .answers) (P .packs .output)
+
+  pub map-within : (n : ℕ) → r ≡ packed.Length n → n ≤ length out
+  map-within n e = accepted-here n e .within
+
+  module _ (first : ℕ) (ks : List ℕ) where
+    abbrev book : Answer Outcome
+    book = bookRanOf D first ks (length (old .statuses)) (length (old .answers))
+
+    -- the session on the first n bytes of the output
+    abbrev pub ran : ℕ → Answer Outcome
+    ran n = ranOf (take n out) first ks (length (old .statuses)) (length (old .answers))
+
+    pub session-rehearsed : (n : ℕ) → r ≡ packed.Length n → (x : Ran) (st an : List ℕ)
+        → ranMeans x ≡ placeLeft (ran n) → st ≡ statusesAfter (ran n) (old .statuses) → an ≡ answersAfter (ran n) (old .answers)
+        → Rehearses D first ks (the-case.Session n x) old (record { work = work; out = out; statuses = st; answers = an })
+    unfolding rehearsalOf
+    session-rehearsed n e x st an hx hs ha =
+        let A = accepted-here n e in
+        let runs : ran n ≡ book
+        = ap (λ s. ranOf s first ks (length (old .statuses)) (length (old .answers))) (A .bytes)
+        ∙ packed-session D (length (old .work)) (length (old .out)) (A .map) (A .is) first ks (length (old .statuses)) (length (old .answers)) in
+        let is : ran n ≡ rehearsed D first ks old = runs ∙ sym (ap (λ a. afterPacking a book) (A .is)) in
+        record {
+          packs = rw (ap packedMeans e) at (P .packs);
+          means = hx ∙ ap placeLeft is;
+          statuses = hs ∙ ap (λ a. statusesAfter a (old .statuses)) is;
+          answers = ha ∙ ap (λ a. answersAfter a (old .answers)) is;
+        }
+
+    refused-rehearsed : (j : ℕ) → packedMeans r .says ≡ refused j
+        → Rehearses D first ks (the-case.NotPacked r) old (record { work = work; out = out; statuses = old .statuses; answers = old .answers })
+    unfolding rehearsalOf numberOf
+    refused-rehearsed j e =
+        let is : refused j ≡ rehearsed D first ks old = sym (ap (λ a. afterPacking a book) (declined j packing (sym e ∙ P .packs .answers))) in
+        record {
+          packs = P .packs;
+          means = ap (λ a. refused (numberOf a)) e ∙ ap placeLeft is;
+          statuses = ap (λ a. statusesAfter a (old .statuses)) is;
+          answers = ap (λ a. answersAfter a (old .answers)) is;
+        }
+
+    pub crossing-rehearsed : (a b : ℕ) → r ≡ packed.Crossing a b
+        → Rehearses D first ks (the-case.NotPacked r) old (record { work = work; out = out; statuses = old .statuses; answers = old .answers })
+    crossing-rehearsed a b e = refused-rehearsed 7 (ap (λ p. packedMeans p .says) e)
+
+    pub declined-rehearsed : (k : ℕ) → r ≡ packed.Declined k
+        → Rehearses D first ks (the-case.NotPacked r) old (record { work = work; out = out; statuses = old .statuses; answers = old .answers })
+    declined-rehearsed k e = refused-rehearsed k (ap (λ p. packedMeans p .says) e)

@@ -1,0 +1,2 @@
+-- A rehearsal: laws.
+pub mod Chained

@@ -1,0 +1,38 @@
+// Packing, then a session on what was packed.
+use packing::Packed;
+use running::Ran;
+ghost use Rattle.drawing.specs.Laid.{lent};
+ghost use Rattle.rehearsing.specs.Answers.{Rehearses};
+
+// Why there is no map, or the map's length and what the session on it answers.
+pub enum Rehearsed {
+    NotPacked(Packed),
+    Session(usize, Ran),
+}
+
+// Packs the drawing into `out`, then runs the calls on the map, from the first number on.
+pub fn rehearse(
+    turning: &[u16],
+    marks: &[u8],
+    start: usize,
+    work: &mut [u16],
+    out: &mut [u8],
+    first: usize,
+    calls: &[u8],
+    statuses: &mut [u8],
+    answers: &mut [u16],
+) -> Rehearsed
+    ensures { λ r. ⌜ Rehearses (lent (now (turning .entry)) (now (marks .entry)) start) first (now (calls .entry)) r
+        (record { work = now (work .entry); out = now (out .entry); statuses = now (statuses .entry); answers = now (answers .entry) })
+        (record { work = now (work .exit); out = now (out .exit); statuses = now (statuses .exit); answers = now (answers .exit) }) ⌝ }
+{
+    let packed = packing::pack(turning, marks, start, work, out);
+    match packed {
+        Packed::Length(n) => {
+            let ran = running::session(&out[..n], first, calls, statuses, answers);
+            Rehearsed::Session(n, ran)
+        }
+        Packed::Crossing(_, _) => Rehearsed::NotPacked(packed),
+        Packed::Declined(_) => Rehearsed::NotPacked(packed),
+    }
+}

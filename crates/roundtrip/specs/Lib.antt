@@ -1,0 +1,2 @@
+-- From a word to its drawing and back: the definitions.
+pub mod Faithful

@@ -1,0 +1,103 @@
+-- The checks of a session, in order: opening's, the room of the lists, the codes.
+--
+-- run-short, run-no-call, run-answers == the checks 2 and `noCall`
+-- ran-opens, ran-declines   == opening's checks before them
+-- given-declined, given-run == what is answered, and what the lists hold, where the session declines and where it was run
+-- session-declines, session-short-statuses, session-short-answers, session-no-call, session-answers == what `session` returns
+-- Assumes nothing.
+use mathlib.Core.Path.{_≡_, refl, sym, ap, _∙_}
+use mathlib.Core.Bool.{Bool, true, false, not, _&&_}
+use mathlib.Core.List.{List}
+use Prim.Native.Nat.{ℕ, zero, suc, _<_, _≤_}
+use native.Mathlib.Omega.{arith}
+use borrow.Author.Tests.{le-leb, leb-true, not-true, not-false}
+use lib.Dec.{leb}
+use lib.ListN.{length}
+use Rattle.count.specs.Below.{pick}
+use Rattle.count.proofs.Logic.{both, not-both, pick-yes, pick-no}
+use Rattle.drawing.specs.Laid.{laid}
+use Rattle.drawing.specs.Session.{Answer, answer, refused, Outcome}
+use Rattle.format.specs.Open.{openRefusal, afterRefusal, opened}
+use Rattle.format.specs.Calls.{mapSession}
+use Rattle.running.specs.Codes.{callsOf, areCalls, noCall}
+use Rattle.running.specs.Runs.{statusesOf, valuesOf, runOf, ranOf, placeLeft, statusesAfter, answersAfter}
+
+-- ---- the checks 2 and `noCall`
+module _ (ks : List ℕ) (k l : ℕ) (o : Outcome) where
+  pub run-short : (length ks ≤ k → length ks ≤ l → ⊥) → runOf ks k l o ≡ refused 2
+  unfolding runOf
+  run-short n =
+      pick-no (leb (length ks) k && leb (length ks) l) (pick (areCalls ks) (answer o) (refused noCall)) (refused 2)
+      (not-both (leb (length ks) k) (leb (length ks) l) (λ g h. n (leb-true (length ks) k g) (leb-true (length ks) l h)))
+
+  module _ (g : length ks ≤ k) (h : length ks ≤ l) where
+    run-room : runOf ks k l o ≡ pick (areCalls ks) (answer o) (refused noCall)
+    unfolding runOf
+    run-room =
+        pick-yes (leb (length ks) k && leb (length ks) l) (pick (areCalls ks) (answer o) (refused noCall)) (refused 2)
+        (both (leb (length ks) k) (leb (length ks) l) (le-leb (length ks) k g) (le-leb (length ks) l h))
+
+    pub run-no-call : areCalls ks ≡ false → runOf ks k l o ≡ refused noCall
+    run-no-call e = run-room ∙ pick-no (areCalls ks) (answer o) (refused noCall) e
+
+    pub run-answers : areCalls ks ≡ true → runOf ks k l o ≡ answer o
+    run-answers e = run-room ∙ pick-yes (areCalls ks) (answer o) (refused noCall) e
+
+-- ---- after opening's
+after-some : {A : Type 0} (k : ℕ) (a : Answer A) → (k ≡ 0 → ⊥) → afterRefusal k a ≡ refused k
+after-some zero a n = absurd (n refl)
+after-some (suc k) a n = refl
+
+module _ (s : List ℕ) (first : ℕ) (ks : List ℕ) (k l : ℕ) where
+  pub ran-opens : openRefusal s ≡ 0 → ranOf s first ks k l ≡ runOf ks k l (mapSession s first (callsOf ks))
+  unfolding ranOf opened
+  ran-opens e = ap (λ x. afterRefusal x (runOf ks k l (mapSession s first (callsOf ks)))) e
+
+  ran-declines : (openRefusal s ≡ 0 → ⊥) → ranOf s first ks k l ≡ refused (openRefusal s)
+  unfolding ranOf opened
+  ran-declines n = after-some (openRefusal s) (runOf ks k l (mapSession s first (callsOf ks))) n
+
+-- ---- what is answered, and what the lists hold
+module _ (a : Answer Outcome) (st an : List ℕ) where
+  given-declined : (j : ℕ) → a ≡ refused j → (refused j ≡ placeLeft a) × ((st ≡ statusesAfter a st) × (an ≡ answersAfter a an))
+  given-declined j e = (ap placeLeft (sym e), (ap (λ x. statusesAfter x st) (sym e), ap (λ x. answersAfter x an) (sym e)))
+
+  given-run : (o : Outcome) (p : ℕ) (st′ an′ : List ℕ) → a ≡ answer o → p ≡ o .place → st′ ≡ laid (statusesOf o) st → an′ ≡ laid (valuesOf o) an
+      → (answer p ≡ placeLeft a) × ((st′ ≡ statusesAfter a st) × (an′ ≡ answersAfter a an))
+  given-run o p st′ an′ e hp hs ha = (
+    ap answer hp ∙ ap placeLeft (sym e),
+    (hs ∙ ap (λ x. statusesAfter x st) (sym e), ha ∙ ap (λ x. answersAfter x an) (sym e)),
+  )
+
+module _ (s : List ℕ) (first : ℕ) (ks st an : List ℕ) (j : ℕ) (e : j ≡ openRefusal s) where
+  abbrev ran : Answer Outcome
+  ran = ranOf s first ks (length st) (length an)
+
+  pub session-declines : (j ≡ 0 → ⊥) → (refused j ≡ placeLeft ran) × ((st ≡ statusesAfter ran st) × (an ≡ answersAfter ran an))
+  session-declines n = given-declined ran st an j (ran-declines s first ks (length st) (length an) (λ z. n (e ∙ z)) ∙ ap refused (sym e))
+
+  module _ (z : j ≡ 0) where
+    opens : ran ≡ runOf ks (length st) (length an) (mapSession s first (callsOf ks))
+    opens = ran-opens s first ks (length st) (length an) (sym e ∙ z)
+
+    short : (length ks ≤ length st → length ks ≤ length an → ⊥) → (refused 2 ≡ placeLeft ran) × ((st ≡ statusesAfter ran st) × (an ≡ answersAfter ran an))
+    short n = given-declined ran st an 2 (opens ∙ run-short ks (length st) (length an) (mapSession s first (callsOf ks)) n)
+
+    pub session-short-statuses : length st < length ks → (refused 2 ≡ placeLeft ran) × ((st ≡ statusesAfter ran st) × (an ≡ answersAfter ran an))
+    session-short-statuses l = short (λ g h. omega arith)
+
+    pub session-short-answers : length an < length ks → (refused 2 ≡ placeLeft ran) × ((st ≡ statusesAfter ran st) × (an ≡ answersAfter ran an))
+    session-short-answers l = short (λ g h. omega arith)
+
+    module _ (g : length ks ≤ length st) (h : length ks ≤ length an) (t : Bool) (y : t ≡ areCalls ks) where
+      pub session-no-call : not t ≡ true → (refused 255 ≡ placeLeft ran) × ((st ≡ statusesAfter ran st) × (an ≡ answersAfter ran an))
+      session-no-call f =
+          given-declined ran st an 255
+          (opens ∙ run-no-call ks (length st) (length an) (mapSession s first (callsOf ks)) g h (sym y ∙ not-true t f))
+
+      pub session-answers : (p : ℕ) (st′ an′ : List ℕ) → not t ≡ false → p ≡ mapSession s first (callsOf ks) .place
+          → st′ ≡ laid (statusesOf (mapSession s first (callsOf ks))) st → an′ ≡ laid (valuesOf (mapSession s first (callsOf ks))) an
+          → (answer p ≡ placeLeft ran) × ((st′ ≡ statusesAfter ran st) × (an′ ≡ answersAfter ran an))
+      session-answers p st′ an′ f hp hs ha =
+          given-run ran st an (mapSession s first (callsOf ks)) p st′ an′
+          (opens ∙ run-answers ks (length st) (length an) (mapSession s first (callsOf ks)) g h (sym y ∙ not-false t f)) hp hs ha

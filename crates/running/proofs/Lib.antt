@@ -1,0 +1,6 @@
+-- Sessions on a packed map: laws.
+pub mod Cases
+pub mod Checked
+pub mod Coded
+pub mod Passing
+pub mod Telling

@@ -1,0 +1,59 @@
+-- What a run of a session answers, and what the lists lent to it hold after it (document 01, "The drawing's book").
+--
+-- statusesOf o         == the status of each call: 0, or the number of its refusal
+-- valuesOf o           == the answer of each call
+-- runOf ks k l o       == the outcome o of a session with the codes ks, after the checks 2 and `noCall`, k statuses and l answers being lent
+-- ranOf s i ks k l     == a session on the map s from the first number i: 8 to 12, those checks, and the outcome
+-- placeLeft a          == the place left at the end, or the refusal
+-- statusesAfter a old  == the list of statuses after a; old where the session declines
+-- answersAfter a old   == the list of answers, the same way
+-- ranMeans r           == what the case r stands for
+-- Assumes nothing.
+use mathlib.Core.Bool.{_&&_}
+use mathlib.Core.List.{List, map}
+use Prim.Native.Nat.{ℕ}
+use lib.Dec.{leb}
+use lib.ListN.{length}
+use Rattle.count.specs.Below.{pick}
+use Rattle.drawing.specs.Laid.{laid}
+use Rattle.drawing.specs.Session.{Answer, answer, refused, numberOf, valueOf, Outcome}
+use Rattle.format.specs.Open.{opened}
+use Rattle.format.specs.Calls.{mapSession}
+use Rattle.running.specs.Codes.{callOf, callsOf, areCalls, noCall}
+use Rattle.running.specs.declared.runs.Ran.{Ran}
+use Rattle.running.specs.declared.runs.Ran.the-variants as the-case
+
+abbrev pub statusesOf : Outcome → List ℕ
+statusesOf o = map numberOf (o .answers)
+
+abbrev pub valuesOf : Outcome → List ℕ
+valuesOf o = map valueOf (o .answers)
+
+-- 2 is document 01's number for lent memory that is too short
+unfoldable pub runOf : List ℕ → ℕ → ℕ → Outcome → Answer Outcome
+unfolding areCalls
+runOf ks k l o =
+    pick (leb (length ks) k && leb (length ks) l) (pick (areCalls ks) (answer o) (refused noCall)) (refused 2)
+
+-- 01: "Every call on map bytes runs 8 to 12, then its own."
+unfoldable pub ranOf : List ℕ → ℕ → List ℕ → ℕ → ℕ → Answer Outcome
+unfolding opened runOf mapSession callOf
+ranOf s i ks k l = opened s (runOf ks k l (mapSession s i (callsOf ks)))
+
+abbrev pub placeLeft : Answer Outcome → Answer ℕ
+placeLeft (answer o) = answer (o .place)
+placeLeft (refused k) = refused k
+
+-- 01: "Output memory is unchanged" where a call declines
+abbrev pub statusesAfter : Answer Outcome → List ℕ → List ℕ
+statusesAfter (answer o) old = laid (statusesOf o) old
+statusesAfter (refused k) old = old
+
+abbrev pub answersAfter : Answer Outcome → List ℕ → List ℕ
+answersAfter (answer o) old = laid (valuesOf o) old
+answersAfter (refused k) old = old
+
+-- 01: "For every case of an enum answer, a definition gives this paper's number and values."
+abbrev pub ranMeans : Ran → Answer ℕ
+ranMeans (the-case.At p) = answer p
+ranMeans (the-case.Declined k) = refused k

@@ -1,2 +1,0 @@
--- The strings of a map that opens: the laws.
-pub mod Opened

@@ -1,2 +1,0 @@
--- The checks of a lent drawing: what their contracts cite.
-pub mod Lent

@@ -1,2 +1,0 @@
--- Turn and turn back: the laws.
-pub mod Turns

@@ -1,4 +1,0 @@
--- Unpacking a packed map: the laws.
-pub mod Placed
-pub mod Written
-pub mod Answered

@@ -1,0 +1,6 @@
+-- The word of a map's bytes: the laws.
+pub mod Openings
+pub mod Partners
+pub mod Decoded
+pub mod Walks
+pub mod Checked

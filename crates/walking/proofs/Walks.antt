@@ -1,0 +1,151 @@
+-- What the functions on the word compute, from what the strings' functions promise.
+--
+-- family-round, family-square == the family of a letter, by its bit in A
+-- mate-own, mate-own-at, mate-other == the partner of a position of the family, and of one of the other family
+-- cross-is                    == the crossing is the partner in the position's own family
+-- step-last, step-last-at, step-next, step-next-at == the step, after the last position and elsewhere
+-- number-is-rank              == the number
+-- Firsts                      == what holds of the first position of a number
+-- first-holds, first-one, first-more == it holds of `first`, which is 0 for number 1, else after the opening that reaches it
+-- first-at                == it is a position
+-- Assumes nothing.
+use mathlib.Core.Path.{_≡_, sym, ap, _∙_}
+use mathlib.Core.List.{List}
+use Prim.Native.Nat.{ℕ, _+_, _-_, _<_, _≤_}
+use native.Mathlib.Omega.{arith}
+use borrow.Author.Tests.{eq-eqb, ne-eqb}
+use lib.Dec.{eqb}
+use Rattle.count.proofs.Logic.{pick-yes, pick-no}
+use Rattle.words.specs.Brackets.{inner, mate, step, number, first}
+use Rattle.words.specs.declared.family.Family.{Family}
+use Rattle.words.specs.declared.family.Family.the-variants.{Round as round, Square as square}
+use Rattle.words.specs.Word.{seen, crossing}
+use Rattle.words.proofs.Stack.{inner-le, inner-inner}
+use Rattle.words.proofs.Mate.{mate-below, mate-neither}
+use Rattle.words.proofs.Numbers.{first-zero, first-inner, number-reached, inner-number}
+use Rattle.bits.specs.Strings.{bit, rank, select, brackets}
+use Rattle.format.specs.Bytes.{sizeIn, bitsA, bitsB, partA, partB, familyBit, wordIn}
+use Rattle.format.specs.Open.{openRefusal}
+use Rattle.format.specs.Calls.{familyOfKind}
+use Rattle.opening.specs.declared.answers.Cell.{Cell}
+use Rattle.opening.specs.Cells.{kindOf, numberOfCell}
+use Rattle.walking.specs.Positions.{Position, Numbered}
+use Rattle.walking.proofs.Decoded.{places-most, seen-neither, nested, mate-ranks, number-ranks, openings-ranks, first-ranks, cells-openings}
+use Rattle.walking.proofs.Partners.{step-inside, step-around}
+
+module _ (s : List ℕ) (p : ℕ) (a : List ℕ) (x : ℕ) (ha : a ≡ partA s) (hx : x ≡ bit a p) where
+  bit-is : bit (partA s) p ≡ x
+  bit-is = sym (hx ∙ ap (λ y. bit y p) ha)
+
+  pub family-round : x ≡ 1 → round ≡ wordIn s .letter p .family
+  unfolding wordIn
+  family-round e = sym (pick-yes (eqb (bit (partA s) p) 1) round square (eq-eqb (bit (partA s) p) 1 (bit-is ∙ e)))
+
+  pub family-square : (x ≡ 1 → ⊥) → square ≡ wordIn s .letter p .family
+  unfolding wordIn
+  family-square m = sym (pick-no (eqb (bit (partA s) p) 1) round square (ne-eqb (bit (partA s) p) 1 (λ e. m (sym bit-is ∙ e))))
+
+position : (s : List ℕ) (r : ℕ) → openRefusal s ≡ 0 → r < bitsA (sizeIn s) → Position s r
+position s r o l = record { opens = o; below = l; few = omega (arith, places-most s o) }
+
+module _ (s : List ℕ) (K : Family) (p : ℕ) (P : Position s p) where
+  mate-at : (r : ℕ) → r ≡ mate (seen K (wordIn s)) (bitsA (sizeIn s)) p → Position s r
+  mate-at r e =
+      let l = mate-below (seen K (wordIn s)) (bitsA (sizeIn s)) (nested s K (P .opens)) p (P .below) in
+      position s r (P .opens) (omega arith)
+
+  module _ (a b : List ℕ) (v x k j q n r : ℕ) (hv : v ≡ familyBit K) (ha : a ≡ partA s) (hb : b ≡ partB K s) (hx : x ≡ bit a p) (e : x ≡ v)
+      (hk : k ≡ bitsB K (sizeIn s)) (hj : j ≡ rank v a p) (hq : q ≡ mate (brackets b) k j) (hn : n ≡ bitsA (sizeIn s)) (hr : r ≡ select v a n q)
+    where
+      pub mate-own : r ≡ mate (seen K (wordIn s)) (bitsA (sizeIn s)) p
+      mate-own =
+          let f : r ≡ select (familyBit K) (partA s) (bitsA (sizeIn s)) (mate (brackets (partB K s)) (bitsB K (sizeIn s)) (rank (familyBit K) (partA s) p)) = cc in
+          let g : bit (partA s) p ≡ familyBit K = cc in
+          f ∙ sym (mate-ranks s K (P .opens) p (P .below) g)
+
+      pub mate-own-at : Position s r
+      mate-own-at = mate-at r mate-own
+
+  pub mate-other : (a : List ℕ) (v x : ℕ) → v ≡ familyBit K → a ≡ partA s → x ≡ bit a p → (x ≡ v → ⊥)
+      → p ≡ mate (seen K (wordIn s)) (bitsA (sizeIn s)) p
+  mate-other a v x hv ha hx m =
+      sym (mate-neither (seen K (wordIn s)) (bitsA (sizeIn s)) p
+      (seen-neither s K p (λ e. m (sym (bit-is s p a x ha hx) ∙ e ∙ sym hv))))
+
+  module _ (r n : ℕ) (e : r ≡ mate (seen K (wordIn s)) (bitsA (sizeIn s)) p) (hn : n ≡ bitsA (sizeIn s)) where
+    pub step-last : n ≤ r + 1 → 0 ≡ step (seen K (wordIn s)) (bitsA (sizeIn s)) p
+    step-last h =
+        let l = mate-at r e .below in
+        sym (step-around (seen K (wordIn s)) (bitsA (sizeIn s)) p (omega arith))
+
+    pub step-next : r + 1 < n → r + 1 ≡ step (seen K (wordIn s)) (bitsA (sizeIn s)) p
+    step-next h = omega (arith, step-inside (seen K (wordIn s)) (bitsA (sizeIn s)) p (omega arith))
+
+  pub step-last-at : Position s 0
+  step-last-at = position s 0 (P .opens) (omega (arith, P .below))
+
+  pub step-next-at : (r n : ℕ) → n ≡ bitsA (sizeIn s) → r + 1 < n → Position s (r + 1)
+  step-next-at r n e h = position s (r + 1) (P .opens) (omega arith)
+
+  pub number-is-rank : (a b : List ℕ) (v j i r : ℕ) → v ≡ familyBit K → a ≡ partA s → b ≡ partB K s → j ≡ rank v a p
+      → i ≡ inner (brackets b) j → r ≡ rank 0 b i → r + 1 ≡ number (seen K (wordIn s)) p
+  number-is-rank a b v j i r hv ha hb hj hi hr =
+      let f : r ≡ rank 0 (partB K s) (inner (brackets (partB K s)) (rank (familyBit K) (partA s) p)) = cc in
+      ap (λ x. x + 1) f ∙ sym (number-ranks s K (P .opens) p (omega (arith, P .below)))
+
+pub cross-is : (s : List ℕ) (K : Family) (p r : ℕ) → K ≡ wordIn s .letter p .family → r ≡ mate (seen K (wordIn s)) (bitsA (sizeIn s)) p
+    → r ≡ crossing (wordIn s) p
+unfolding crossing wordIn
+cross-is s K p r e h = h ∙ ap (λ X. mate (seen X (wordIn s)) (bitsA (sizeIn s)) p) e
+
+-- ---- the first position of a number
+pub record Firsts (s : List ℕ) (K : Family) (k f : ℕ) : Type 0 where
+  pub below : f < bitsA (sizeIn s)
+  pub itself : inner (seen K (wordIn s)) f ≡ f
+  pub number : number (seen K (wordIn s)) f ≡ k
+
+module _ (s : List ℕ) (c : Cell) (N : Numbered s c) (z : 0 < bitsA (sizeIn s)) where
+  abbrev family : Family
+  family = familyOfKind (kindOf c)
+
+  abbrev found : ℕ
+  found = first (seen (familyOfKind (kindOf c)) (wordIn s)) (bitsA (sizeIn s)) (numberOfCell c)
+
+  pub first-holds : Firsts s family (numberOfCell c) found
+  first-holds =
+      let b = seen family (wordIn s) in
+      let n = bitsA (sizeIn s) in
+      let k = numberOfCell c in
+      let bal = nested s family (N .opens) in
+      let t = number-reached b n bal z k (N .least)
+      (omega (arith, N .most, cells-openings s (kindOf c) (N .opens), openings-ranks s family (N .opens))) in
+      let p = t .0 in
+      let f : inner b p ≡ first b n k = sym (first-inner b n p (t .1)) ∙ ap (first b n) (t .2) in
+      let e : number b (inner b p) ≡ k = inner-number b (inner b p) p (inner-inner b p) ∙ t .2 in
+      rw (← f)
+      (record {
+        below = omega (arith, t .1, inner-le b p);
+        itself = inner-inner b p;
+        number = e;
+      })
+
+  pub first-at : (r : ℕ) → r ≡ found → Position s r
+  first-at r e = position s r (N .opens) (omega (arith, first-holds .below))
+
+  pub first-one : (k : ℕ) → k ≡ numberOfCell c → k ≡ 1 → 0 ≡ found
+  first-one k h e =
+      let b = seen family (wordIn s) in
+      let n = bitsA (sizeIn s) in
+      sym (ap (first b n) (sym h ∙ e) ∙ first-zero b n (nested s family (N .opens)) z)
+
+  pub first-more : (K : Family) (a b : List ℕ) (v k m j n r : ℕ) → K ≡ family → k ≡ numberOfCell c → (k ≡ 1 → ⊥) → v ≡ familyBit K
+      → a ≡ partA s → b ≡ partB K s → m ≡ bitsB K (sizeIn s) → j ≡ select 0 b m (k - 2) → n ≡ bitsA (sizeIn s) → r ≡ select v a n j
+      → r + 1 ≡ found
+  first-more K a b v k m j n r hK hk h hv ha hb hm hj hn hr =
+      let F = family in
+      let x = numberOfCell c in
+      let f : r ≡ select (familyBit F) (partA s) (bitsA (sizeIn s)) (select 0 (partB F s) (bitsB F (sizeIn s)) (x - 2)) = cc in
+      let i : x - 2 + 2 ≡ x = omega (arith, N .least) in
+      ap (λ y. y + 1) f
+      ∙ sym (first-ranks s F (N .opens) (x - 2) (omega (arith, N .least, N .most, cells-openings s (kindOf c) (N .opens))))
+      ∙ ap (first (seen F (wordIn s)) (bitsA (sizeIn s))) i

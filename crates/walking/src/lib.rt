@@ -1,0 +1,26 @@
+// The bracket word that a map's bytes hold, walked through its three strings.
+//
+//     family_at          the family of the bracket at a position
+//     crossing_at        the partner of a position, in its own family
+//     mate_at            its partner in a family
+//     step_at            the next position about the same point, the same area
+//     point_of, area_of  its point, its area
+//     first_at           the first position of a point, of an area
+//
+// Conventions. Positions count from 0: position p is place p + 1. Points and areas count from 1. Round
+// brackets enclose points, square ones areas; what holds of both is written once, for a family of
+// brackets. But for family_at, the functions ask that the bytes open and have such a position, point or
+// area: whoever calls has checked.
+//
+// The source is document 01, "Tour and packed map" and "Moves". The definitions that the contracts cite
+// are those of the crate `words`, of the word that `format` finds in the bytes; specs/Positions.antt
+// says what is asked.
+mod word;
+
+pub use word::area_of;
+pub use word::crossing_at;
+pub use word::family_at;
+pub use word::first_at;
+pub use word::mate_at;
+pub use word::point_of;
+pub use word::step_at;

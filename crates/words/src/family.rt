@@ -1,0 +1,5 @@
+// A family of brackets: ( ) for the borders of the tree, [ ] for the others.
+pub enum Family {
+    Round,
+    Square,
+}
