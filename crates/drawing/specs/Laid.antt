@@ -1,5 +1,5 @@
--- A drawing in lent lists: the drawing that they hold, what a call that gives a drawing answers, and what the lists hold after it (document 01, "Numbers
--- returned when a call declines").
+-- A drawing in lent lists: the drawing that they hold, what a call that gives a drawing answers, and what the lists hold after
+-- it (document 01, "Numbers returned when a call declines").
 --
 -- lent ts ms s         == the drawing with turning list ts, marks ms and start s
 -- bordersOf a          == m of the drawing given, or the refusal

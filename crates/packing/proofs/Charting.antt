@@ -33,7 +33,7 @@ use Rattle.format.specs.Pack.{wordOf, packedBytes}
 use Rattle.format.proofs.Encode.{map-bytes-same}
 use Rattle.drawing.specs.Laid.{lent}
 use Rattle.checking.specs.Lent.{Blank, Kept}
-use Rattle.touring.specs.Working.{Outside, Zeroed, Tours, Clean, Told, Charted, Crosses, tourIn, borderIn, met}
+use Rattle.touring.specs.Working.{Outside, Zeroed, Tours, Clean, Noted, Charted, Crosses, tourIn, borderIn, met}
 use Rattle.writing.specs.Writing.{wordAt, chartBytes, Legible, Sized}
 use Rattle.writing.proofs.Filling.{round-is}
 
@@ -92,7 +92,7 @@ module _ (ts ms : List ℕ) (s : ℕ) (six : PassesSix (lent ts ms s)) where
             zero = λ e l. O .after (2 * (2 * length ms) + e) (omega (arith, half)) ∙ B .zero (2 * (2 * length ms) + e) (omega (arith, half));
           }
 
-      module _ (w2 : List ℕ) (F : Told (2 * length ms) w1 w2) where
+      module _ (w2 : List ℕ) (F : Noted (2 * length ms) w1 w2) where
         pub chart-made : Chart (lent ts ms s) w2
         unfolding ends borders
         chart-made =

@@ -2,3 +2,4 @@
 pub mod Charting
 pub mod Later
 pub mod Order
+pub mod Outcomes

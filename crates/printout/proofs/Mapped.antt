@@ -1,17 +1,17 @@
 -- From a drawing to the text of its map.
 --
 -- room-enough      == packing with room to spare answers as with all that it asks for
+-- packed-opening   == what packing answers opens
 -- Mapped D n map   == the first n bytes of `map` are the map of D, and what is printed for them is what is printed for D
 -- map-mapped, crossing-prints, declined-prints == what is printed for D after each answer of packing
 -- Assumes nothing.
 use mathlib.Core.Path.{_≡_, refl, sym, ap, _∙_}
 use mathlib.Core.Bool.{Bool, true, false, not}
-use mathlib.Core.List.{List, _++_}
-use Prim.Native.Nat.{ℕ, zero, suc, _*_, _≤_}
+use mathlib.Core.List.{List}
+use Prim.Native.Nat.{ℕ, _*_, _≤_}
 use native.Mathlib.Omega.{arith}
 use lib.Dec.{leb}
-use lib.ListN.{length, take, drop, length-append}
-use lib.Seq.{take-at}
+use lib.ListN.{length, take}
 use borrow.Author.Tests.{le-leb}
 use Rattle.count.proofs.Logic.{both}
 use Rattle.drawing.specs.Drawing.{Drawing, borders}
@@ -25,7 +25,9 @@ use Rattle.text.specs.Listing.{refusedLine, listed, packed}
 use Rattle.packing.specs.Answers.{packedMeans, lengthOf, written}
 use Rattle.packing.specs.declared.answers.Packed.{Packed}
 use Rattle.packing.specs.declared.answers.Packed.the-variants as the-case
+use Rattle.packing.proofs.Outcomes.{accepted, declined}
 use Rattle.agreement.proofs.Passed.{packed-opens}
+use Rattle.format.proofs.Chain.{after-answer}
 use Rattle.format.proofs.Refusals.{pack-accepts}
 use Rattle.listing.specs.Printed.{printed}
 
@@ -49,25 +51,12 @@ module _ (D : Drawing) (work out : ℕ) (long : 12288 ≤ work) (wide : longest 
       (unless-same (lengthsFit D) 1 (unless (roomFits D work out) 2 rest) (unless (roomFits D (6 * borders D) longest) 2 rest)
       (λ e. ap (λ t. unless t 2 rest) (room-fits work out (few e) wide ∙ sym (room-fits (6 * borders D) longest (omega arith) (omega arith)))))
 
--- ---- packing answered n: the bytes have that length, and they open
-record Accepted (D : Drawing) (a : Answer (List ℕ)) (n : ℕ) : Type 0 where
-  pub bytes : a ≡ answer (packedBytes D)
-  pub length-is : n ≡ length (packedBytes D)
-  pub opens : openRefusal (packedBytes D) ≡ 0
-
-module _ (D : Drawing) (work out : ℕ) where
-  answered : (k n : ℕ) → packRefusal D work out ≡ k → answer n ≡ lengthOf (afterRefusal k (answer (packedBytes D)))
-      → Accepted D (afterRefusal k (answer (packedBytes D))) n
-  answered zero n r e = record { bytes = refl; length-is = cc; opens = packed-opens D (pack-accepts D work out .0 r .1) }
-  answered (suc k) n r e = let z : _≡_ {A = ℕ} 0 1 = cc in absurd (omega arith)
-
-  accepted : (n : ℕ) → answer n ≡ lengthOf (packOf D work out) → Accepted D (packOf D work out) n
-  unfolding packOf
-  accepted n e = answered (packRefusal D work out) n refl e
-
-refused-is : (k : ℕ) (a : Answer (List ℕ)) → refused k ≡ lengthOf a → a ≡ refused k
-refused-is k (answer s) e = let z : _≡_ {A = ℕ} 0 1 = cc in absurd (omega arith)
-refused-is k (refused j) e = cc
+-- ---- what packing answers opens
+packed-opening : (D : Drawing) (work out : ℕ) (s : List ℕ) → packOf D work out ≡ answer s → openRefusal s ≡ 0
+unfolding packOf
+packed-opening D work out s e =
+    let a = after-answer (packRefusal D work out) (packedBytes D) s e in
+    ap openRefusal (sym (a .1)) ∙ packed-opens D (pack-accepts D work out .0 (a .0) .1)
 
 -- ---- what is printed after packing
 pub record Mapped (D : Drawing) (n : ℕ) (map : List ℕ) : Type 0 where
@@ -81,17 +70,16 @@ bytes-print s o = ap (λ k. listed (afterRefusal k (answer s))) o
 module _ (D : Drawing) (work out : ℕ) (long : 12288 ≤ work) (wide : longest ≤ out) (r : Packed) (e : packedMeans r .says ≡ lengthOf (packOf D work out)) where
   pub map-mapped : (n : ℕ) (old map : List ℕ) → r ≡ the-case.Length n → map ≡ written (packOf D work out) old → Mapped D n map
   map-mapped n old map h w =
-      let A = accepted D work out n (sym (ap (λ x. packedMeans x .says) h) ∙ e) in
-      let s : map ≡ packedBytes D ++ drop (length (packedBytes D)) old = w ∙ ap (λ a. written a old) (A .bytes) in
-      let b : take n map ≡ packedBytes D = ap (take n) s ∙ take-at (packedBytes D) (drop (length (packedBytes D)) old) n (sym (A .length-is)) in
+      let A = accepted n old map (packOf D work out) (sym (ap (λ x. packedMeans x .says) h) ∙ e) w in
       record {
-        within = omega (arith, A .length-is, ap length s, length-append (packedBytes D) (drop (length (packedBytes D)) old));
-        prints = ap printed b ∙ bytes-print (packedBytes D) (A .opens) ∙ ap listed (sym (A .bytes) ∙ room-enough D work out long wide);
+        within = A .within;
+        prints = ap printed (A .bytes) ∙ bytes-print (A .map) (packed-opening D work out (A .map) (A .is))
+            ∙ ap listed (sym (A .is) ∙ room-enough D work out long wide);
       }
 
   refusal-prints : (k : ℕ) → refused k ≡ lengthOf (packOf D work out) → listed (packed (answer D)) ≡ refusedLine k
   unfolding listed
-  refusal-prints k f = ap listed (sym (room-enough D work out long wide) ∙ refused-is k (packOf D work out) f)
+  refusal-prints k f = ap listed (sym (room-enough D work out long wide) ∙ declined k (packOf D work out) f)
 
   pub crossing-prints : (a b : ℕ) → r ≡ the-case.Crossing a b → listed (packed (answer D)) ≡ refusedLine 7
   crossing-prints a b h = refusal-prints 7 (sym (ap (λ x. packedMeans x .says) h) ∙ e)

@@ -1,22 +1,19 @@
 -- From packing's contract and that of a session to that of a rehearsal. The session on the map is the book's.
 --
 -- packed-session   == a session on the bytes that packing gives is the session on the drawing's book: demand 3, with the checks of a session
--- Accepted         == packing answered n: the first n bytes of the output are the map
--- accepted, declined == packing's two outcomes
 -- Packing          == what packing ensures
 -- map-within       == the map stands within the output
 -- session-rehearsed, crossing-rehearsed, declined-rehearsed == what `rehearse` returns
 -- Assumes nothing.
-use mathlib.Core.Path.{_≡_, refl, sym, ap, _∙_}
+use mathlib.Core.Path.{_≡_, sym, ap, _∙_}
 use mathlib.Core.List.{List}
 use Prim.Native.Nat.{ℕ, _≤_}
-use native.Mathlib.Omega.{arith}
-use lib.ListN.{length, take, drop, length-append}
-use lib.Seq.{take-at}
+use lib.ListN.{length, take}
 use Rattle.drawing.specs.Drawing.{Drawing}
 use Rattle.drawing.specs.Session.{Answer, answer, refused, numberOf, Outcome}
 use Rattle.format.specs.Pack.{packOf}
-use Rattle.packing.specs.Answers.{packedMeans, lengthOf, written, Packs}
+use Rattle.packing.specs.Answers.{packedMeans, Packs}
+use Rattle.packing.proofs.Outcomes.{Accepted, accepted, declined}
 use Rattle.packing.specs.declared.answers.Packed.{Packed}
 use Rattle.packing.specs.declared.answers.Packed.the-variants as packed
 use Rattle.running.specs.Codes.{callsOf}
@@ -34,28 +31,6 @@ unfolding bookRanOf
 packed-session D w o s e i ks k l =
     let A : Agrees D s = demand-3 D w o s e in
     ran-opens s i ks k l (A .opens .passes) ∙ ap (runOf ks k l) (A .sessions .same i (callsOf ks))
-
--- ---- packing's two outcomes
-record Accepted (a : Answer (List ℕ)) (n : ℕ) (new : List ℕ) : Type 0 where
-  pub map : List ℕ
-  pub is : a ≡ answer map
-  pub within : n ≤ length new
-  pub bytes : take n new ≡ map
-
-accepted : (n : ℕ) (old new : List ℕ) (a : Answer (List ℕ)) → answer n ≡ lengthOf a → new ≡ written a old → Accepted a n new
-accepted n old new (answer s) e h =
-    let l : n ≡ length s = cc in
-    record {
-      map = s;
-      is = refl;
-      within = omega (arith, l, ap length h, length-append s (drop (length s) old));
-      bytes = ap (take n) h ∙ take-at s (drop (length s) old) n (sym l);
-    }
-accepted n old new (refused j) e h = let z : _≡_ {A = ℕ} 0 1 = cc in absurd (omega arith)
-
-declined : (j : ℕ) (a : Answer (List ℕ)) → refused j ≡ lengthOf a → a ≡ refused j
-declined j (answer s) e = let z : _≡_ {A = ℕ} 0 1 = cc in absurd (omega arith)
-declined j (refused i) e = cc
 
 -- ---- what `rehearse` returns
 -- what packing ensures, of the lists of a rehearsal

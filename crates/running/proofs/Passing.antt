@@ -19,7 +19,7 @@ use Rattle.drawing.specs.Session.{Answer, numberOf, Call, placeAfter, session, 
 use Rattle.format.specs.Calls.{mapAnswer, mapSession}
 use Rattle.running.specs.Codes.{callOf, callsOf}
 use Rattle.running.specs.Runs.{statusesOf, valuesOf}
-use Rattle.running.specs.Told.{Tells}
+use Rattle.running.specs.Told.{Gives}
 use Rattle.running.specs.declared.runs.Told.{Told}
 
 laid-here : (x : ℕ) (xs st : List ℕ) (i : ℕ) → i < length st
@@ -87,7 +87,7 @@ module _ (s : List ℕ) (first : ℕ) (ks st₀ an₀ : List ℕ) where
       }
 
   module _ (st an : List ℕ) (p i : ℕ) (R : Running st an p i) where
-    pub running-more : (t : Told) → i < length ks → Tells (callOf (getD ks i 0)) (mapAnswer s (callOf (getD ks i 0)) p) p t
+    pub running-more : (t : Told) → i < length ks → Gives (callOf (getD ks i 0)) (mapAnswer s (callOf (getD ks i 0)) p) p t
         → Running (set st i (t .status)) (set an i (t .value)) (t .place) (i + 1)
     running-more t l T =
         let c : Call = callOf (getD ks i 0) in

@@ -19,7 +19,7 @@ ghost use Rattle.format.specs.Calls.{mapAnswer, mapSession};
 ghost use Rattle.opening.specs.Answers.{placeMeans, pointMeans, areaMeans};
 ghost use Rattle.running.specs.Codes.{callOf, callsOf};
 ghost use Rattle.running.specs.Runs.{statusesOf, valuesOf, ranOf, ranMeans, placeLeft, statusesAfter, answersAfter};
-ghost use Rattle.running.specs.Told.{Tells};
+ghost use Rattle.running.specs.Told.{Gives};
 
 // The place left at the end, or the number of the check that declines.
 pub enum Ran {
@@ -90,7 +90,7 @@ struct Told {
 
 // One call at a place.
 fn tell(map: &[u8], code: u8, place: usize) -> Told
-    ensures { λ r. ⌜ Tells (callOf code) (mapAnswer (now (map .entry)) (callOf code) place) place r ⌝ }
+    ensures { λ r. ⌜ Gives (callOf code) (mapAnswer (now (map .entry)) (callOf code) place) place r ⌝ }
 {
     match code {
         CROSS => moved(map::cross(map, Place(place)), place),
@@ -105,7 +105,7 @@ fn tell(map: &[u8], code: u8, place: usize) -> Told
 // "The answer is the new place", as for cross.
 fn moved(a: PlaceAnswer, place: usize) -> Told
     requires { ⌜ valueOf (placeMeans a) < 65536 ⌝ }
-    ensures { λ r. ⌜ Tells Call.cross (placeMeans a) place r ⌝ }
+    ensures { λ r. ⌜ Gives Call.cross (placeMeans a) place r ⌝ }
 {
     match a {
         PlaceAnswer::At(p) => answered(p.0, p.0),
@@ -116,7 +116,7 @@ fn moved(a: PlaceAnswer, place: usize) -> Told
 // "The place stays."
 fn told_point(a: PointAnswer, place: usize) -> Told
     requires { ⌜ valueOf (pointMeans a) < 65536 ⌝ }
-    ensures { λ r. ⌜ Tells Call.point (pointMeans a) place r ⌝ }
+    ensures { λ r. ⌜ Gives Call.point (pointMeans a) place r ⌝ }
 {
     match a {
         PointAnswer::Is(p) => answered(p.0, place),
@@ -127,7 +127,7 @@ fn told_point(a: PointAnswer, place: usize) -> Told
 // "The place stays."
 fn told_area(a: AreaAnswer, place: usize) -> Told
     requires { ⌜ valueOf (areaMeans a) < 65536 ⌝ }
-    ensures { λ r. ⌜ Tells Call.area (areaMeans a) place r ⌝ }
+    ensures { λ r. ⌜ Gives Call.area (areaMeans a) place r ⌝ }
 {
     match a {
         AreaAnswer::Is(p) => answered(p.0, place),

@@ -26,7 +26,7 @@ use Rattle.drawing.specs.Drawing.{borders, ends, border, other, turn, isMarked,
 use Rattle.drawing.specs.Checks.{LengthsFit, InRange}
 use Rattle.drawing.proofs.Ends.{other-below, over-yes, over-no, end-zero, end-after}
 use Rattle.drawing.specs.Laid.{lent}
-use Rattle.touring.specs.Working.{Outside, Tours, Clean, Told, tourIn, borderIn, met, isMet}
+use Rattle.touring.specs.Working.{Outside, Tours, Clean, Noted, tourIn, borderIn, met, isMet}
 use Rattle.touring.proofs.Outside.{outside-none, outside-set}
 
 -- ---- border_in
@@ -150,7 +150,7 @@ module _ (places : ℕ) (old : List ℕ) (C : Clean places old) where
     pub telling-length : length w ≡ length old
     telling-length = T .outside .same-length
 
-    pub telling-all : places ≤ p → Told places old w
+    pub telling-all : places ≤ p → Noted places old w
     unfolding isMet
     telling-all l =
         let d : p ≡ places = omega (arith, T .within) in

@@ -11,7 +11,7 @@
 -- Tours D w           == the tour of D stands in the first third
 -- Ends places w       == the first third has ends only, and there is room for three
 -- Clean places w      == the same, and the last third is 0
--- Told places old new == new is old, with a 1 in the second third for each second place, in the last for each border met, else 0
+-- Noted places old new == new is old, with a 1 in the second third for each second place, in the last for each border met, else 0
 -- Charted places w    == the tour that stands in w meets each end once, and the second third says which places are second
 -- Crosses ms places t a b == two unmarked borders a and b alternate in the tour t
 -- Assumes nothing.
@@ -61,7 +61,7 @@ pub record Clean (places : ℕ) (w : List ℕ) : Type 0 where
   pub ends : Ends places w
   pub zero : (e : ℕ) → e < places → getD w (2 * places + e) 0 ≡ 0
 
-pub record Told (places : ℕ) (old new : List ℕ) : Type 0 where
+pub record Noted (places : ℕ) (old new : List ℕ) : Type 0 where
   pub second : (p : ℕ) → p < places → getD new (places + p) 0 ≡ pick (met (tourIn old) p) 1 0
   pub flags : (e : ℕ) → e < places → getD new (2 * places + e) 0 ≡ pick (isMet (tourIn old) places e) 1 0
   pub outside : Outside places (3 * places) old new

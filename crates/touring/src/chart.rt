@@ -7,7 +7,7 @@ ghost use lib.ListN.{length};
 ghost use Rattle.drawing.specs.Drawing.{isMarked, over};
 ghost use Rattle.drawing.specs.Checks.{LengthsFit, InRange};
 ghost use Rattle.drawing.specs.Laid.{lent};
-ghost use Rattle.touring.specs.Working.{Outside, Tours, Clean, Told};
+ghost use Rattle.touring.specs.Working.{Outside, Tours, Clean, Noted};
 
 // Puts the end at each position of the tour into the first 2m entries.
 pub fn tour(turning: &[u16], marks: &[u8], start: usize, work: &mut [u16])
@@ -30,7 +30,7 @@ pub fn tour(turning: &[u16], marks: &[u8], start: usize, work: &mut [u16])
 // the borders met.
 pub fn seconds(work: &mut [u16], places: usize)
     requires { ⌜ Clean places (now work) ⌝ }
-    ensures { λ _. ⌜ Told places (now (work .entry)) (now (work .exit)) ⌝ }
+    ensures { λ _. ⌜ Noted places (now (work .entry)) (now (work .exit)) ⌝ }
 {
     let mut p = 0;
     while p < places {

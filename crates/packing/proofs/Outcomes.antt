@@ -1,0 +1,35 @@
+-- What a caller of packing knows from its reply: the map, or the refusal.
+--
+-- Accepted a n new == packing answered n: a is a map, which the first n bytes of the output new are
+-- accepted         == so it is where the reply is a length
+-- declined         == a refusal is replied where there is one
+-- Assumes nothing.
+use mathlib.Core.Path.{_≡_, refl, sym, ap, _∙_}
+use mathlib.Core.List.{List}
+use Prim.Native.Nat.{ℕ, _≤_}
+use native.Mathlib.Omega.{arith}
+use lib.ListN.{length, take, drop, length-append}
+use lib.Seq.{take-at}
+use Rattle.drawing.specs.Session.{Answer, answer, refused}
+use Rattle.packing.specs.Answers.{lengthOf, written}
+
+pub record Accepted (a : Answer (List ℕ)) (n : ℕ) (new : List ℕ) : Type 0 where
+  pub map : List ℕ
+  pub is : a ≡ answer map
+  pub within : n ≤ length new
+  pub bytes : take n new ≡ map
+
+pub accepted : (n : ℕ) (old new : List ℕ) (a : Answer (List ℕ)) → answer n ≡ lengthOf a → new ≡ written a old → Accepted a n new
+accepted n old new (answer s) e h =
+    let l : n ≡ length s = cc in
+    record {
+      map = s;
+      is = refl;
+      within = omega (arith, l, ap length h, length-append s (drop (length s) old));
+      bytes = ap (take n) h ∙ take-at s (drop (length s) old) n (sym l);
+    }
+accepted n old new (refused j) e h = let z : _≡_ {A = ℕ} 0 1 = cc in absurd (omega arith)
+
+pub declined : (j : ℕ) (a : Answer (List ℕ)) → refused j ≡ lengthOf a → a ≡ refused j
+declined j (answer s) e = let z : _≡_ {A = ℕ} 0 1 = cc in absurd (omega arith)
+declined j (refused i) e = cc
