@@ -1,4 +1,5 @@
-/* (b) The same checks, then plain arrays of half-edges built from the bytes, then the answer by looking it up. */
+/* (b) The same checks, then plain arrays of half-edges built from the bytes, then the answer by looking it up: of one call, of
+   all calls of a session, or of every place at once, which is the drawing. */
 #include "answers.h"
 #include "calls.h"
 
@@ -65,6 +66,8 @@ static uint8_t build(const uint8_t *map, size_t length, struct arrays *x)
         }
         x->step[1 - v][p] = (uint16_t)(p + 1 == x->places ? 0 : p + 1);
         if (!closing) {
+            if (depth[v] == bits[v] / 2)
+                return 12;
             depth[v]++;
             opened[v][depth[v]] = (uint16_t)p;
             stack[v][depth[v]] = (uint16_t)++found[v];
@@ -136,6 +139,74 @@ static uint8_t joining(const uint8_t *map, size_t length, size_t u, size_t v, ui
         }
         p = x.step[1][p];
     }
+    return 0;
+}
+
+/* A call of a session at position p, by its code. */
+static size_t answer(const struct arrays *x, uint8_t code, size_t p)
+{
+    switch (code) {
+    case 0:
+        return x->mate[p] + 1u;
+    case 1:
+        return turn(x, p);
+    case 2:
+        return turn_back(x, p);
+    case 3:
+        return x->step[0][p] + 1u;
+    case 4:
+        return x->cell[1][p];
+    default:
+        return x->cell[0][p];
+    }
+}
+
+uint8_t halfedge_session(const uint8_t *map, size_t length, size_t first, const uint8_t *calls, size_t calls_length, uint8_t *statuses, size_t statuses_length,
+                         uint16_t *answers, size_t answers_length, size_t *place)
+{
+    struct arrays x;
+    uint8_t status = build(map, length, &x);
+    size_t at = first, i;
+
+    if (status != 0)
+        return status;
+    if (statuses_length < calls_length || answers_length < calls_length)
+        return 2;
+    for (i = 0; i < calls_length; i++)
+        if (calls[i] > 5)
+            return 255;
+    for (i = 0; i < calls_length; i++) {
+        int refused = at == 0 || at > x.places;
+        statuses[i] = refused ? 13 : 0;
+        answers[i] = (uint16_t)(refused ? 0 : answer(&x, calls[i], at - 1));
+        if (!refused && calls[i] < 4)
+            at = answers[i];
+    }
+    *place = at;
+    return 0;
+}
+
+uint8_t halfedge_unpack(const uint8_t *map, size_t length, uint16_t *turning, size_t turning_length, uint8_t *marks, size_t marks_length, uint16_t *m)
+{
+    struct arrays x;
+    uint16_t end[MOST];
+    uint8_t status = build(map, length, &x);
+    size_t p, e = 0;
+
+    if (status != 0)
+        return status;
+    if (turning_length < x.places || marks_length < x.m)
+        return 16;
+    for (p = 0; p < x.places; p++)
+        if (!x.closing[p]) {
+            marks[e] = x.round[p];
+            end[p] = (uint16_t)(2 * e);
+            end[x.mate[p]] = (uint16_t)(2 * e + 1);
+            e++;
+        }
+    for (p = 0; p < x.places; p++)
+        turning[end[p]] = end[x.step[1][p]];
+    *m = (uint16_t)x.m;
     return 0;
 }
 

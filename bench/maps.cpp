@@ -169,3 +169,33 @@ std::vector<uint8_t> make_map(kind k, size_t m)
     bytes.resize(length);
     return bytes;
 }
+
+std::vector<std::vector<uint8_t>> make_maps(kind k, size_t m)
+{
+    std::vector<std::vector<uint8_t>> list;
+    for (size_t left = std::min(16384 / m, size_t(256)); left > 0; left--)
+        list.push_back(make_map(k, m));
+    return list;
+}
+
+size_t borders(const std::vector<uint8_t> &map)
+{
+    return map[0] + 256u * map[1];
+}
+
+size_t points(const std::vector<uint8_t> &map)
+{
+    return map[2] + 256u * map[3];
+}
+
+std::vector<std::vector<uint8_t>> damaged(const std::vector<uint8_t> &map)
+{
+    std::vector<std::vector<uint8_t>> list = { {}, { map.begin(), map.end() - 1 }, map };
+    list.back().push_back(0);
+    for (int i = 0; i < 20; i++) {
+        size_t b = below(8 * map.size());
+        list.push_back(map);
+        list.back()[b / 8] ^= uint8_t(1 << b % 8);
+    }
+    return list;
+}

@@ -20,4 +20,15 @@ size_t below(size_t bound);  // a random number below `bound`, the same in every
 // A map of this kind with m borders, as bytes.
 std::vector<uint8_t> make_map(kind k, size_t m);
 
+// Several of them, to be taken in turn: on one map over and over, a processor comes to know which way each branch will go, and
+// what is timed is no longer what a map costs that comes once.
+std::vector<std::vector<uint8_t>> make_maps(kind k, size_t m);
+
+// m and n, as the header has them.
+size_t borders(const std::vector<uint8_t> &map);
+size_t points(const std::vector<uint8_t> &map);
+
+// Bytes that no longer open: nothing, too few, too many, and some with one bit changed.
+std::vector<std::vector<uint8_t>> damaged(const std::vector<uint8_t> &map);
+
 #endif

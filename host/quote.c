@@ -82,13 +82,32 @@ static size_t read_area(const char *text)
     return (size_t)area;
 }
 
-static void print_side(const char *path, const struct card *card, size_t place)
-{
-    uint16_t opposite, beyond;
+/*
+ * What is asked at each side: across, which area lies there, back again, and on to the next side. An area has at most as
+ * many sides as the map has places, two for each border.
+ */
+enum { ACROSS, BEYOND, BACK, ON, OF_SIDE, MOST_CALLS = OF_SIDE * 2 * PMAP_MOST_BORDERS };
+static const uint8_t of_side[OF_SIDE] = {
+    [ACROSS] = PMAP_CALL_CROSS, [BEYOND] = PMAP_CALL_AREA, [BACK] = PMAP_CALL_CROSS, [ON] = PMAP_CALL_ALONG,
+};
 
-    stop_if_refused(path, pmap_cross(card->bytes, card->length, place, &opposite));
-    stop_if_refused(path, pmap_area(card->bytes, card->length, opposite, &beyond));
-    printf("place %zu: across lies area %u\n", place, (unsigned)beyond);
+/* Walks once round the area in one session, from its first place. */
+static void print_sides(const char *path, const struct card *card, size_t place, size_t sides)
+{
+    static uint8_t calls[MOST_CALLS], statuses[MOST_CALLS];
+    static uint16_t answers[MOST_CALLS];
+    size_t count = OF_SIDE * sides, left, i;
+
+    for (i = 0; i < count; i++)
+        calls[i] = of_side[i % OF_SIDE];
+    stop_if_refused(path, pmap_session(card->bytes, card->length, place, calls, count, statuses, MOST_CALLS, answers,
+                                       MOST_CALLS, &left));
+    for (i = 0; i < count; i++)
+        stop_if_refused(path, statuses[i]);
+    for (i = 0; i < count; i += OF_SIDE) {
+        printf("place %zu: across lies area %u\n", place, (unsigned)answers[i + BEYOND]);
+        place = answers[i + ON];
+    }
 }
 
 /* What was printed has gone out, or the box does not say that all is well. */
@@ -105,7 +124,7 @@ int main(int argc, char **argv)
     static struct card card;
     const char *path;
     size_t area;
-    uint16_t m, n, sides, first, place;
+    uint16_t m, n, sides, first;
 
     if (argc != 3) {
         fprintf(stderr, "usage: quote CARD AREA\n");
@@ -120,14 +139,9 @@ int main(int argc, char **argv)
     stop_if_refused(path, pmap_area_first(card.bytes, card.length, area, &first));
     printf("area %zu of %u, sides: %u\n", area, (unsigned)m - n + 2, (unsigned)sides);
 
-    if (first == 0) {
+    if (first == 0)
         printf("the map has no borders\n");
-        return finish_output();
-    }
-    place = first;
-    do {
-        print_side(path, &card, place);
-        stop_if_refused(path, pmap_along(card.bytes, card.length, place, &place));
-    } while (place != first);
+    else
+        print_sides(path, &card, first, sides);
     return finish_output();
 }

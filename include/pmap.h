@@ -1,6 +1,6 @@
 /*
- * pmap.h - packed maps of rating areas: packing a drawing and unpacking a map; opening, moves, counts and the joining
- * border on the bytes of a map. Link with libpmap.a (`rt staticlib pmap`).
+ * pmap.h - packed maps of rating areas: packing a drawing and unpacking a map; opening, moves, counts, the joining border
+ * and whole sessions on the bytes of a map. Link with libpmap.a (`rt staticlib pmap`).
  *
  * Proved. For all bytes and all numbers, and as long as the caller keeps to "Memory" below, every function ends, touches no
  * other memory, and answers and leaves in the memory it was lent what stands here. Not proved: "Time", "Stack" and
@@ -17,23 +17,23 @@
  *
  * Status. Every function returns 0 (PMAP_OK) and writes its answer, or it returns the number of the first check that
  * fails, in the order of the list below, and then it has written nothing: every out cell and every out list holds what
- * it held before. Every call on a map runs the checks 8 to 12 on the whole map first. pmap_pack returns two border numbers
- * beside the status, and says what it leaves in its working list.
+ * it held before. Every call on a map runs the checks 8 to 12 on the whole map first, so that pmap_session tests 2 after
+ * them. pmap_pack returns two border numbers beside the status, and says what it leaves in its working list.
  *
  * Memory. `map` points to map_len readable bytes, with no alignment asked for; it may be NULL if map_len is 0. So it is
- * with every list: turning_len, marks_len, work_len and out_len count entries, the list may be NULL if it has none, and
- * lists of uint16_t are aligned as such. The functions only read what is const. Out cells are not NULL and are aligned as
- * uint16_t. All memory stays the caller's: nothing is kept, freed or handed over. The lists and the cells that are lent
- * to one call must not overlap one another, and no other thread may write any of them during the call, or read those
- * that are not const.
+ * with every list: turning_len, marks_len, work_len, out_len, calls_len, statuses_len and answers_len count entries, the
+ * list may be NULL if it has none, and lists of uint16_t are aligned as such. The functions only read what is const. Out
+ * cells are not NULL and are aligned as what they hold: uint16_t, but *place of pmap_session as size_t. All memory stays
+ * the caller's: nothing is kept, freed or handed over. The lists and the cells that are lent to one call must not overlap
+ * one another, and no other thread may write any of them during the call, or read those that are not const.
  *
- * Time. pmap_pack takes time in proportion to m, a call on a map in proportion to map_len, but for two: pmap_joining makes
- * a pass over the map for each place about u that it looks at, and pmap_unpack one for each end, so that at worst their
- * time grows with the square of map_len. docs/SPEED.md has the times measured.
+ * Time. pmap_pack takes time in proportion to m at most, every call on a map in proportion to map_len, pmap_session to
+ * map_len and calls_len together, whatever the map is like. docs/SPEED.md has the times measured.
  *
- * Stack. No function recurses or allocates. The deepest call was measured at 656 bytes below its caller's frame (libpmap.a
- * of this toolchain, x86-64); a host that leaves PMAP_STACK bytes has more than three times that. tests/host measures it
- * again at each run.
+ * Stack. No function recurses or allocates. pmap_session, pmap_joining and pmap_unpack hold lists of the whole map on the
+ * stack: they were measured at up to 33,044 bytes below the caller's frame, every other call at up to 544 (libpmap.a of this
+ * toolchain, x86-64). A host that leaves PMAP_STACK bytes has nearly twice what any call takes. tests/host measures it again
+ * at each run.
  *
  * Threads. Nothing is kept between calls, there is no global state, and no function calls back: calls may run in several
  * threads at once.
@@ -49,23 +49,35 @@ extern "C" {
 #endif
 
 enum {
-    PMAP_OK = 0,          /* success: the answer was written */
-    PMAP_LISTS = 1,       /* turning_len is odd or over 4,096, or marks_len is not half of it */
-    PMAP_ROOM = 2,        /* work_len is under 6m, or out_len under 1,029 */
-    PMAP_RANGE = 3,       /* an entry or the start is not below 2m (m = 0: the start is not 0), or a mark is over 1 */
-    PMAP_REPEATED = 4,    /* two entries of the turning list are equal */
-    PMAP_APART = 5,       /* the marked borders don't join all points */
-    PMAP_MANY_MARKS = 6,  /* they do, and there are more of them than n-1 */
-    PMAP_CROSSING = 7,    /* two unmarked borders alternate in the tour: PMAP_SMALLER and PMAP_LARGER name them */
-    PMAP_HEADER = 8,      /* under 4 bytes, m over 2,048, or n not 1 to m+1 */
-    PMAP_LENGTH = 9,      /* map_len is not the length that the header gives */
-    PMAP_UNUSED_BIT = 10, /* a bit that belongs to no string is 1 */
-    PMAP_MARKS = 11,      /* the string A has not 2n-2 ones */
-    PMAP_BRACKETS = 12,   /* the string B or B* is not balanced */
-    PMAP_NO_PLACE = 13,   /* place is not 1 to 2m */
-    PMAP_NO_POINT = 14,   /* point is not 1 to n */
-    PMAP_NO_AREA = 15,    /* area is not 1 to m-n+2 */
-    PMAP_SHORT_LISTS = 16 /* turning_len is under 2m, or marks_len under m */
+    PMAP_OK = 0,           /* success: the answer was written */
+    PMAP_LISTS = 1,        /* turning_len is odd or over 4,096, or marks_len is not half of it */
+    PMAP_ROOM = 2,         /* pmap_pack: work_len is under 6m, or out_len under 1,029;
+                              pmap_session: statuses_len or answers_len is under calls_len */
+    PMAP_RANGE = 3,        /* an entry or the start is not below 2m (m = 0: the start is not 0), or a mark is over 1 */
+    PMAP_REPEATED = 4,     /* two entries of the turning list are equal */
+    PMAP_APART = 5,        /* the marked borders don't join all points */
+    PMAP_MANY_MARKS = 6,   /* they do, and there are more of them than n-1 */
+    PMAP_CROSSING = 7,     /* two unmarked borders alternate in the tour: PMAP_SMALLER and PMAP_LARGER name them */
+    PMAP_HEADER = 8,       /* under 4 bytes, m over 2,048, or n not 1 to m+1 */
+    PMAP_LENGTH = 9,       /* map_len is not the length that the header gives */
+    PMAP_UNUSED_BIT = 10,  /* a bit that belongs to no string is 1 */
+    PMAP_MARKS = 11,       /* the string A has not 2n-2 ones */
+    PMAP_BRACKETS = 12,    /* the string B or B* is not balanced */
+    PMAP_NO_PLACE = 13,    /* place is not 1 to 2m */
+    PMAP_NO_POINT = 14,    /* point is not 1 to n */
+    PMAP_NO_AREA = 15,     /* area is not 1 to m-n+2 */
+    PMAP_SHORT_LISTS = 16, /* turning_len is under 2m, or marks_len under m */
+    PMAP_NO_CALL = 255     /* a code in `calls` is over 5; document 01's table, which has all the others, ends at 17 */
+};
+
+/* The calls of a session, by their codes. */
+enum {
+    PMAP_CALL_CROSS = 0,
+    PMAP_CALL_TURN = 1,
+    PMAP_CALL_TURN_BACK = 2,
+    PMAP_CALL_ALONG = 3,
+    PMAP_CALL_POINT = 4,
+    PMAP_CALL_AREA = 5
 };
 
 /* The length of the longest map, in bytes. A buffer of PMAP_LONGEST + 1 tells a card that is too long from one that isn't. */
@@ -75,7 +87,7 @@ enum {
 #define PMAP_MOST_BORDERS 2048
 
 /* Bytes of stack that are enough for every call: see "Stack". */
-#define PMAP_STACK 2048
+#define PMAP_STACK 65536
 
 /*
  * What pmap_pack returns, taken apart: the status, and with PMAP_CROSSING the two borders, the smaller first. A crossing is
@@ -189,6 +201,23 @@ uint8_t pmap_neighbours(const uint8_t *map, size_t map_len, size_t area, uint16_
  * Status: 0, 8, 9, 10, 11, 12, 14 (u or v is not a point).
  */
 uint8_t pmap_joining(const uint8_t *map, size_t map_len, size_t u, size_t v, uint16_t *out);
+
+/*
+ * A session: a list of calls in one, each about the place that the calls before it have left. `calls` has a code for each
+ * call. The place is `first` at the beginning, whatever number that is. A call answers what the single call would answer
+ * of the place. If it is a move (cross, turn, turn back, along), its answer is the new place, also where it is 0; point
+ * and area leave the place as it is.
+ *
+ * Entry i of `statuses` is the status of call i, 0 or 13, and entry i of `answers` is its answer. A call that is refused
+ * has the answer 0, and the place stays: after a 0 every call gets 13. The place left at the end goes to *place. The
+ * first calls_len entries of the two lists are written, and nothing after them is touched.
+ *
+ * The checks of the session itself run in the order 8 to 12, 2 (a list is shorter than the calls), 255 (a code is over
+ * 5). With any of these refusals both lists and *place are left as they were.
+ * Status: 0, 8, 9, 10, 11, 12, 2, 255.
+ */
+uint8_t pmap_session(const uint8_t *map, size_t map_len, size_t first, const uint8_t *calls, size_t calls_len,
+                     uint8_t *statuses, size_t statuses_len, uint16_t *answers, size_t answers_len, size_t *place);
 
 #ifdef __cplusplus
 }

@@ -1,4 +1,4 @@
-/* Packing and renumbering by the tour, and the drawing's book. */
+/* Packing and renumbering by the tour, the drawing's book, and sessions on it. */
 #include "reference.h"
 
 #include <string.h>
@@ -205,4 +205,29 @@ struct reply book_joining(const struct book *b, size_t u, size_t v)
         h = b->drawing->turning[h];
     } while (h != first);
     return answer(0);
+}
+
+/* ---- sessions ---- */
+
+uint8_t session_refusal(const struct asked *s)
+{
+    size_t i;
+    if (s->statuses_len < s->calls_len || s->answers_len < s->calls_len) return 2;
+    for (i = 0; i < s->calls_len; i++)
+        if (s->calls[i] > 5) return 255;
+    return 0;
+}
+
+/* Of a move "the answer is the new place"; of point and area, and of a call that gets 13, "the place stays". */
+struct reply book_step(const struct book *b, uint8_t code, size_t *place)
+{
+    struct reply r;
+    if (code == 4) return book_point(b, *place);
+    if (code == 5) return book_area(b, *place);
+    if (code == 0) r = book_cross(b, *place);
+    else if (code == 1) r = book_turn(b, *place);
+    else if (code == 2) r = book_turn_back(b, *place);
+    else r = book_along(b, *place);
+    if (r.status == 0) *place = r.value;
+    return r;
 }

@@ -4,8 +4,12 @@
 #include "pmap.h"
 
 const struct call of_place[OF_PLACE] = {
-    {"pmap_cross", pmap_cross, book_cross}, {"pmap_turn", pmap_turn, book_turn}, {"pmap_turn_back", pmap_turn_back, book_turn_back},
-    {"pmap_along", pmap_along, book_along}, {"pmap_point", pmap_point, book_point}, {"pmap_area", pmap_area, book_area},
+    [PMAP_CALL_CROSS] = {"pmap_cross", pmap_cross, book_cross},
+    [PMAP_CALL_TURN] = {"pmap_turn", pmap_turn, book_turn},
+    [PMAP_CALL_TURN_BACK] = {"pmap_turn_back", pmap_turn_back, book_turn_back},
+    [PMAP_CALL_ALONG] = {"pmap_along", pmap_along, book_along},
+    [PMAP_CALL_POINT] = {"pmap_point", pmap_point, book_point},
+    [PMAP_CALL_AREA] = {"pmap_area", pmap_area, book_area},
 };
 
 const struct call of_point[OF_POINT] = {

@@ -12,7 +12,7 @@ struct call {
     struct reply (*book)(const struct book *, size_t);
 };
 
-/* The calls that a session may hold, the four moves first; calls about a point; calls about an area. */
+/* The calls that a session may hold, by their codes, the four moves first; calls about a point; calls about an area. */
 enum { MOVES = 4, OF_PLACE = 6, OF_POINT = 2, OF_AREA = 3 };
 extern const struct call of_place[OF_PLACE], of_point[OF_POINT], of_area[OF_AREA];
 

@@ -1,8 +1,8 @@
 /*
  * Document 01 once more, from the drawing's side: what is wrong with a drawing or with a card, the drawing that bytes unpack
- * to, and the drawing's book. Written from document 01 alone, so that the library can be compared with it; slow and plain on
- * purpose, and where there is a choice not in the library's way: marks are followed by merging points, 7 is looked for in
- * all pairs.
+ * to, and the drawing's book with its sessions. Written from document 01 alone, and the codes of calls from include/pmap.h, so
+ * that the library can be compared with it; slow and plain on purpose, and where there is a choice not in the library's
+ * way: marks are followed by merging points, 7 is looked for in all pairs.
  */
 #ifndef REFERENCE_H
 #define REFERENCE_H
@@ -95,5 +95,18 @@ struct reply book_area_first(const struct book *b, size_t area);
 struct reply book_sides(const struct book *b, size_t area);
 struct reply book_neighbours(const struct book *b, size_t area);
 struct reply book_joining(const struct book *b, size_t u, size_t v);
+
+/* A session: "a first number and a list of calls", the calls by their codes, and the room lent for what they give. */
+struct asked {
+    size_t first;
+    const uint8_t *calls;
+    size_t calls_len, statuses_len, answers_len;
+};
+
+/* 2 or 255, if one of them applies to a session on a map that opens, else 0: lists shorter than the calls, a code over 5. */
+uint8_t session_refusal(const struct asked *s);
+
+/* One call of a session, by its code: 0 to 5, cross, turn, turn back, along, point, area. The place becomes the one after it. */
+struct reply book_step(const struct book *b, uint8_t code, size_t *place);
 
 #endif

@@ -1,6 +1,6 @@
 /*
- * Opening, moves and numbers on top of the reference, to test the test programs: with FAULT 0 in the environment nothing may
- * differ, and with each other FAULT, a mistake that a library could make, something must.
+ * Opening, moves, numbers and sessions on top of the reference, to test the test programs: with FAULT 0 in the environment
+ * nothing may differ, and with each other FAULT, a mistake that a library could make, something must.
  */
 #include "shim.h"
 
@@ -121,4 +121,76 @@ uint8_t pmap_joining(const uint8_t *map, size_t map_len, size_t u, size_t v, uin
         return give(r, out);
     }
     return give(book_joining(&book, number(u), number(v)), out);
+}
+
+/* ---- sessions ---- */
+
+static uint8_t session_status(const struct asked *s, uint8_t opening)
+{
+    struct asked changed = *s;
+    uint8_t last = s->calls_len > 0 ? s->calls[s->calls_len - 1] : 0, own;
+    if (FAULT == 111) changed.statuses_len++; /* takes a list of statuses that is one short */
+    if (FAULT == 112) changed.answers_len++;  /* takes a list of answers that is one short */
+    own = session_refusal(&changed);
+    if (FAULT == 113 && own == 2) return 2;                                   /* tests 2 before it opens the map */
+    if (FAULT == 114 && own == 255) return 255;                               /* tests 255 before it opens the map */
+    if (FAULT == 115 && own == 2 && last > 5) own = 255;                      /* tests 255 before 2 */
+    if (FAULT == 116 && own == 255 && last <= 5) own = 0;                     /* looks at the last code only */
+    if (FAULT == 117 && own == 255 && last == 6) own = 0;                     /* takes 6 at the end for a call */
+    if (FAULT == 118 && own == 0 && s->calls_len == 0) own = 2;               /* declines a list of no calls */
+    if (FAULT == 119 && own == 0 && s->statuses_len == s->calls_len) own = 2; /* wants more room than it needs */
+    if (FAULT == 120 && own == 0 && s->calls_len > 4096) own = 2;             /* takes 4,096 calls and no more */
+    if (opening != 0) return opening;
+    if (FAULT == 121 && own == 0 && book_point(&book, s->first).status != 0) own = 13; /* declines a first number off the map */
+    return own;
+}
+
+/* Call i, and the place after it. */
+static struct reply take_step(uint8_t code, size_t i, size_t first, size_t *at)
+{
+    size_t before = *at;
+    struct reply r;
+    if (FAULT == 122) *at = first;                  /* asks every call of the first number */
+    if (FAULT == 123 && i % 4096 == 0) *at = first; /* begins again after 4,096 calls */
+    if (FAULT == 124 && code == 5) code = 4;        /* the point for the area */
+    r = book_step(&book, code, at);
+    if (FAULT == 125 && r.status == 0 && code == 4) *at = r.value; /* moves to the number of the point */
+    if (FAULT == 126 && r.status == 0 && *at == 0) *at = before;   /* stays where a move answers 0 */
+    if (FAULT == 127 && r.status != 0) *at = 0;                    /* goes to 0 where a call is refused */
+    if (FAULT == 128 && r.status != 0) r.value = before;           /* the place for the answer of a refused call */
+    return r;
+}
+
+/* What it writes though it declines, or what is not its to write. */
+static void write_wrongly(const struct asked *s, uint8_t status, uint8_t *statuses, uint16_t *answers, size_t *place)
+{
+    if (FAULT == 131 && status != 0) *place = 0;                                                   /* the place on a refusal */
+    if (FAULT == 132 && status == 255) statuses[0] = 0;                                            /* before it has seen all codes */
+    if (FAULT == 133 && status == 2 && s->answers_len > 0) answers[0] = 0;                         /* before it has tested the room */
+    if (FAULT == 134 && status == 0 && s->calls_len > 0) ((uint8_t *)s->calls)[0] ^= 1;            /* the calls */
+    if (FAULT == 135 && status == 0 && s->statuses_len > s->calls_len) statuses[s->calls_len] = 0; /* a status beyond the calls */
+    if (FAULT == 136 && status == 0 && s->answers_len > s->calls_len) answers[s->calls_len] = 0;   /* an answer beyond the calls */
+    if (FAULT == 137 && status == 0 && s->statuses_len > 0) statuses[s->statuses_len] = 0;         /* beyond the statuses */
+    if (FAULT == 138 && status == 0 && s->answers_len > 0) answers[s->answers_len] = 0;            /* beyond the answers */
+    if (FAULT == 139 && status == 0) place[1] = 0;                                                 /* beside its cell */
+}
+
+uint8_t pmap_session(const uint8_t *map, size_t map_len, size_t first, const uint8_t *calls, size_t calls_len,
+                     uint8_t *statuses, size_t statuses_len, uint16_t *answers, size_t answers_len, size_t *place)
+{
+    struct asked asked = {number(first), calls, calls_len, statuses_len, answers_len};
+    uint8_t status = session_status(&asked, open_card(map, map_len));
+    size_t at = asked.first, i;
+    if (FAULT == 141 && calls_len > 0) status |= ((const volatile uint8_t *)calls)[calls_len] & 0; /* reads past the calls */
+    write_wrongly(&asked, status, statuses, answers, place);
+    if (status != 0) return status;
+    for (i = 0; i < calls_len; i++) {
+        struct reply r = take_step(calls[i], i, asked.first, &at);
+        statuses[i] = r.status;
+        if (FAULT != 142 || r.status == 0) answers[i] = (uint16_t)r.value; /* leaves the answer of a refused call as it was */
+    }
+    if (FAULT == 143) at %= 65536;       /* the place in 16 bits */
+    if (FAULT == 144) at = asked.first;  /* the first number for the place */
+    if (FAULT != 145) *place = at;       /* does not give the place */
+    return 0;
 }

@@ -17,6 +17,7 @@
 #include "lending.h"
 #include "pmap.h"
 #include "reference.h"
+#include "sessions.h"
 #include "tally.h"
 
 static int small;
@@ -59,6 +60,27 @@ static void worked_examples(void)
     compare_value("pmap_degree", pmap_degree, CARD(triangle), 0, 14, 0);
     compare_value("pmap_sides", pmap_sides, CARD(triangle), 0, 15, 0);
     part_ends("document 01's examples");
+}
+
+/* The same numbers, asked for in sessions: across and back, round a point to its last place, and 13 from there on. */
+static void worked_sessions(void)
+{
+    enum { CROSS, TURN, TURN_BACK, ALONG, POINT, AREA };
+    static const struct given on_triangle = {1, 5, {CROSS, POINT, AREA, CROSS, AREA}, {0}, {5, 2, 2, 1, 1}, 1},
+                              on_figure[] = {{12, 3, {TURN, POINT, TURN_BACK}, {0}, {16, 5, 12}, 12},
+                                             {12, 4, {AREA, CROSS, CROSS, TURN}, {0}, {4, 15, 12, 16}, 16},
+                                             {28, 4, {TURN, TURN, POINT, CROSS}, {0, 13, 13, 13}, {0}, 0}},
+                              on_stub = {1, 3, {CROSS, CROSS, TURN}, {0}, {2, 1, 0}, 0},
+                              on_loop = {2, 4, {AREA, CROSS, AREA, ALONG}, {0}, {2, 1, 1, 1}, 1},
+                              on_empty = {1, 2, {ALONG, AREA}, {13, 13}, {0}, 1};
+    size_t place = 0, i;
+    compare_given(CARD(triangle), &on_triangle);
+    for (i = 0; i < sizeof on_figure / sizeof *on_figure; i++) compare_given(CARD(figure_1), &on_figure[i]);
+    compare_given(CARD(stub), &on_stub);
+    compare_given(CARD(loop), &on_loop);
+    compare_given(CARD(empty), &on_empty);
+    expect(pmap_session(CARD(triangle), 5, NULL, 0, NULL, 0, NULL, 0, &place) == 0 && place == 5, "pmap_session", "of no calls, and no lists");
+    part_ends("document 01's examples in sessions");
 }
 
 /* Every string of the right length, balanced or not, opened; every call on those that open. */
@@ -158,6 +180,35 @@ static void largest(void)
     part_ends("a card of 2,048 borders, every place, point and area");
 }
 
+/* Sessions of many lengths, beyond the number of places of the largest card too. */
+static void long_sessions(void)
+{
+    static const size_t counts[] = {1, 2, 3, 255, 256, 257, 4095, 4096, 4097, 8193, 20000};
+    struct card card;
+    size_t i;
+    for (i = 0; i < sizeof counts / sizeof *counts; i++) {
+        random_card(&card, 12, 1 + random_below(13), 4);
+        compare_long_sessions(card.bytes, card.length, counts[i]);
+        if (small) continue;
+        random_card(&card, MOST_BORDERS - random_below(9), 1 + random_below(2000), (unsigned)random_below(9));
+        compare_long_sessions(card.bytes, card.length, counts[i]);
+    }
+    part_ends("long sessions");
+}
+
+/* Trees, loops only, and both; deep and flat. */
+static void tours(void)
+{
+    size_t m = small ? 60 : MOST_BORDERS, points[] = {1, m + 1, 1 + m / 2, 1 + m / 2, 1 + m / 2}, i;
+    unsigned lean[] = {4, 4, 8, 0, 4};
+    struct card card;
+    for (i = 0; i < sizeof points / sizeof *points; i++) {
+        random_card(&card, m, points[i], lean[i]);
+        compare_tour(card.bytes, card.length);
+    }
+    part_ends(small ? "sessions over every place" : "sessions over every place of cards of 2,048 borders");
+}
+
 static void damaged(void)
 {
     struct card card;
@@ -213,7 +264,7 @@ static void no_bytes(void)
 /* Every status came up, so no part above ran idle. */
 static void every_status(void)
 {
-    static const uint8_t statuses[] = {0, 8, 9, 10, 11, 12, 13, 14, 15};
+    static const uint8_t statuses[] = {0, 2, 8, 9, 10, 11, 12, 13, 14, 15, 255};
     expect_seen(statuses, sizeof statuses);
     part_ends("every status was seen");
 }
@@ -224,6 +275,7 @@ int main(int argc, char **argv)
     setvbuf(stdout, NULL, _IOLBF, 0);
     prepare_lending(argc > 2 && strcmp(argv[2], "heap") == 0);
     worked_examples();
+    worked_sessions();
     no_bytes();
     headers();
     all_strings(small ? 2 : 4);
@@ -232,6 +284,8 @@ int main(int argc, char **argv)
     random_drawings(small ? 60 : 6000);
     damaged();
     random_bytes(small ? 100 : 20000);
+    long_sessions();
+    tours();
     if (!small) {
         large(2048, 6);
         largest();

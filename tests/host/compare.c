@@ -7,6 +7,7 @@
 #include "cards.h"
 #include "lending.h"
 #include "pmap.h"
+#include "sessions.h"
 #include "tally.h"
 
 /* ---- lending cards ---- */
@@ -93,7 +94,7 @@ static void compare_odd(const uint8_t *map, size_t length, const struct book *b)
     for (i = 0; i < sizeof near / sizeof *near; i++) compare_number(map, length, 0, b, near[i]);
 }
 
-/* All places, points, areas and pairs of points, and the odd numbers. */
+/* All places, points, areas and pairs of points, the odd numbers, and sessions. */
 static void compare_all(const uint8_t *map, size_t length, const struct book *b)
 {
     const struct call *call;
@@ -108,9 +109,10 @@ static void compare_all(const uint8_t *map, size_t length, const struct book *b)
     }
     for (k = 1; k <= b->areas; k++)
         for EACH(of_area, call) compare_call(call, map, length, 0, b, k);
+    compare_sessions(map, length, 0, b);
 }
 
-/* `count` places, points, areas and pairs of points, by chance, and the odd numbers. */
+/* `count` places, points, areas and pairs of points, by chance, the odd numbers, and sessions. */
 static void compare_some(const uint8_t *map, size_t length, const struct book *b, size_t count)
 {
     const struct call *call;
@@ -124,6 +126,7 @@ static void compare_some(const uint8_t *map, size_t length, const struct book *b
         compare_joining(map, length, 0, b, point, 1 + random_below(b->n));
         compare_joining(map, length, 0, b, point, book_point(b, book_cross(b, place).value).value);
     }
+    compare_sessions(map, length, 0, b);
 }
 
 void compare_refused(const uint8_t *map, size_t length, uint8_t status)
@@ -132,6 +135,7 @@ void compare_refused(const uint8_t *map, size_t length, uint8_t status)
     compare_number(map, length, status, NULL, 0);
     compare_number(map, length, status, NULL, 1);
     compare_number(map, length, status, NULL, SIZE_MAX);
+    compare_sessions(map, length, status, NULL);
 }
 
 static struct drawing drawing;

@@ -14,7 +14,7 @@
 #include "cards.h"
 #include "pmap.h"
 
-enum { STACK = 1 << 17, PAINT = 0xA5, BORDERS = 2048 };
+enum { STACK = 1 << 17, PAINT = 0xA5, BORDERS = 2048, CALLS = 64 };
 
 static _Alignas(64) unsigned char memory[STACK];
 static ucontext_t here, there;
@@ -23,15 +23,16 @@ static ucontext_t here, there;
 static void (*task)(void);
 static library_call *call;
 static struct card card;
-static size_t asked;
-static uint16_t turning[2 * BORDERS], again[2 * BORDERS], work[6 * BORDERS], m, n, out;
-static uint8_t marks[BORDERS], status, bytes[PMAP_LONGEST];
+static size_t asked, left;
+static uint16_t turning[2 * BORDERS], again[2 * BORDERS], work[6 * BORDERS], answers[CALLS], m, n, out;
+static uint8_t marks[BORDERS], status, bytes[PMAP_LONGEST], calls[CALLS], statuses[CALLS];
 static uint32_t packed;
 
 static void nothing(void) { status = 0; }
 static void open_card(void) { status = pmap_open(card.bytes, card.length, &m, &n); }
 static void ask(void) { status = call(card.bytes, card.length, asked, &out); }
 static void join(void) { status = pmap_joining(card.bytes, card.length, asked, asked, &out); }
+static void run_session(void) { status = pmap_session(card.bytes, card.length, asked, calls, CALLS, statuses, CALLS, answers, CALLS, &left); }
 static void unpack_card(void) { status = pmap_unpack(card.bytes, card.length, turning, 2 * BORDERS, marks, BORDERS, &m); }
 static void pack_drawing(void) { packed = pmap_pack(again, 2 * (size_t)m, marks, m, 0, work, 6 * (size_t)m, bytes, sizeof bytes, &out); }
 
@@ -73,7 +74,7 @@ static int show(const char *group, size_t most)
 
 int main(void)
 {
-    size_t opening = 0, places = 0, points = 0, areas = 0, joining = 0, unpacking = 0, packing = 0, round, i;
+    size_t opening = 0, places = 0, points = 0, areas = 0, joining = 0, sessions = 0, unpacking = 0, packing = 0, round, i;
     int over = 0;
 
     base = used(nothing);
@@ -98,6 +99,11 @@ int main(void)
             asked = random_below((size_t)m - n + 4);
             keep_most(&areas, ask);
         }
+        asked = 1 + random_below(2 * borders + 1);
+        for (i = 0; i < CALLS; i++) calls[i] = (uint8_t)random_below(OF_PLACE);
+        keep_most(&sessions, run_session);
+        calls[CALLS - 1] = OF_PLACE; /* no call */
+        keep_most(&sessions, run_session);
         if (round % 20 == 0) {
             keep_most(&unpacking, unpack_card);
             memcpy(again, turning, sizeof again);
@@ -115,6 +121,7 @@ int main(void)
     over |= show("of a point", points);
     over |= show("of an area", areas);
     over |= show("pmap_joining", joining);
+    over |= show("pmap_session", sessions);
     over |= show("pmap_unpack", unpacking);
     over |= show("pmap_pack", packing);
     return over;

@@ -5,7 +5,7 @@
 -- with-bit-here    == the digit at r is the new one
 -- with-bit-other   == every other digit is as before
 -- with-bit-below   == a number below 2 ^ w stays below it, for r below w
--- with-bit-off, with-bit-on == the number without its digit at r, and with 2 ^ r there
+-- with-bit-either  == the number without its digit at r, and with the new one there
 -- Assumes nothing.
 use mathlib.Core.Path.{_≡_, sym, ap, _∙_}
 use mathlib.Core.Logic.{inl, inr}
@@ -94,10 +94,14 @@ with-bit-other x r v j n =
           rw (above-digit (withBit x r v) j r l, above-digit x j r l, above x r v)
     ]
 
-pub with-bit-off : (x r : ℕ) → x - x / 2 ^ r % 2 * 2 ^ r ≡ withBit x r false
+with-bit-off : (x r : ℕ) → x - x / 2 ^ r % 2 * 2 ^ r ≡ withBit x r false
 unfolding withBit
 with-bit-off x r = omega (arith, digit-split x r, zero-mul (2 ^ r))
 
-pub with-bit-on : (x r : ℕ) → x - x / 2 ^ r % 2 * 2 ^ r + 2 ^ r ≡ withBit x r true
+with-bit-on : (x r : ℕ) → x - x / 2 ^ r % 2 * 2 ^ r + 2 ^ r ≡ withBit x r true
 unfolding withBit
 with-bit-on x r = omega (arith, digit-split x r, one-mul (2 ^ r))
+
+pub with-bit-either : (x r : ℕ) (v : Bool) → x - x / 2 ^ r % 2 * 2 ^ r + pick v 1 0 * 2 ^ r ≡ withBit x r v
+with-bit-either x r true = omega (arith, with-bit-on x r, one-mul (2 ^ r))
+with-bit-either x r false = omega (arith, with-bit-off x r, zero-mul (2 ^ r))

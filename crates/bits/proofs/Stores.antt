@@ -25,7 +25,7 @@ use Rattle.count.specs.Below.{pick}
 use Rattle.count.proofs.Logic.{same-or-not, lt-or-ge}
 use Rattle.bits.specs.Strings.{bit}
 use Rattle.bits.specs.Writes.{withBit, setBit, cleared}
-use Rattle.bits.proofs.Digits.{one-shifted, digit-split, with-bit-here, with-bit-other, with-bit-below, with-bit-on, with-bit-off}
+use Rattle.bits.proofs.Digits.{one-shifted, digit-split, with-bit-here, with-bit-other, with-bit-below, with-bit-either}
 
 module _ (s : List ℕ) (i : ℕ) (v : Bool) where
   pub set-bit-length : length (setBit s i v) ≡ length s
@@ -84,16 +84,17 @@ module _ (x r : ℕ) (v : Bool) (l : r < 8) where
   pub digit-fits : Fits w8 x → Fits w8 (x / 2 ^ r % 2 * (1 * 2 ^ r % 256))
   digit-fits f = record { fits = omega (arith, digit-part, f .fits) }
 
-  pub turned-off : v ≡ false → x - x / 2 ^ r % 2 * (1 * 2 ^ r % 256) ≡ withBit x r v
-  turned-off e = rw (one-shifted 8 r l, e) (with-bit-off x r)
+  module _ (d : ℕ) (e : d ≡ pick v 1 0) where
+    pub turned : x - x / 2 ^ r % 2 * (1 * 2 ^ r % 256) + d * (1 * 2 ^ r % 256) ≡ withBit x r v
+    turned = rw (one-shifted 8 r l, e) (with-bit-either x r v)
 
-  pub turned-on : v ≡ true → x - x / 2 ^ r % 2 * (1 * 2 ^ r % 256) + 1 * 2 ^ r % 256 ≡ withBit x r v
-  turned-on e = rw (one-shifted 8 r l, e) (with-bit-on x r)
+    pub turned-fits : Fits w8 x → Fits w8 (x - x / 2 ^ r % 2 * (1 * 2 ^ r % 256) + d * (1 * 2 ^ r % 256))
+    turned-fits f = record { fits = rw turned (with-bit-below x r v 8 (f .fits) l) }
 
-  pub turned-fits : Fits w8 x → Fits w8 (x - x / 2 ^ r % 2 * (1 * 2 ^ r % 256) + 1 * 2 ^ r % 256)
-  turned-fits f = record { fits = rw (one-shifted 8 r l, with-bit-on x r) (with-bit-below x r true 8 (f .fits) l) }
+    pub one-fits : Fits w8 x → Fits w8 (d * (1 * 2 ^ r % 256))
+    one-fits f = record { fits = omega (arith, turned-fits f .fits) }
 
-pub ruleset with-bit-all = (digit-part, digit-fits, turned-off, turned-on, turned-fits, needs)
+pub ruleset with-bit-all = (digit-part, digit-fits, turned, turned-fits, one-fits, needs)
 
 pub stored : (s : List ℕ) (i y : ℕ) (v : Bool) → y ≡ withBit (getD s (i / 8) 0) (i % 8) v → set s (i / 8) y ≡ setBit s i v
 unfolding setBit

@@ -2,6 +2,7 @@
 use crate::numbers::least;
 ghost use mathlib.Core.Path.{_≡_};
 ghost use Prim.Native.Nat.{_<_};
+ghost use Rattle.count.specs.Below.{pick};
 ghost use Rattle.bits.specs.Writes.{withBit, setBit, cleared};
 
 // Makes bit i be v. Nothing changes where i is past the end.
@@ -32,6 +33,12 @@ fn with_bit(x: u8, r: usize, v: bool) -> u8
     ensures { λ y. ⌜ y ≡ withBit x r v ⌝ }
 {
     let p = 1 << r;
-    let off = x - (x >> r) % 2 * p;
-    if v { off + p } else { off }
+    x - (x >> r) % 2 * p + one(v) * p
+}
+
+// 1 for true. A number, and no jump: the bits of a string are hard to foresee.
+fn one(v: bool) -> u8
+    ensures { λ r. ⌜ r ≡ pick v 1 0 ⌝ }
+{
+    if v { 1 } else { 0 }
 }

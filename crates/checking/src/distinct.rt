@@ -1,5 +1,5 @@
 // Check 4: no two entries of the turning list are equal.
-use crate::ends::wide;
+use bits::wide;
 ghost use mathlib.Core.Path.{_≡_};
 ghost use Prim.Native.Nat.{_*_};
 ghost use lib.ListN.{length};

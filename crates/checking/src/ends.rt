@@ -1,13 +1,6 @@
 // Ends as the lists hold them: 16-bit numbers.
 ghost use mathlib.Core.Path.{_≡_};
-ghost use Prim.Native.Nat.{_<_};
 ghost use Rattle.drawing.specs.Drawing.{other};
-
-pub fn wide(x: u16) -> usize
-    ensures { λ r. ⌜ (r ≡ x) × (r < 65536) ⌝ }
-{
-    x as usize
-}
 
 // The other end of h's border.
 pub fn other(h: u16) -> u16

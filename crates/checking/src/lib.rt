@@ -6,7 +6,7 @@
 //     is_joined      5: the marked borders join all points
 //     count_marks    6: how many borders are marked
 //     count_points   6: n, the number of points
-//     wide, other    an end as an index; its border's other end
+//     other          the other end of an end's border
 //
 // Conventions. A drawing is lent as its turning list, its marks and its start; in a contract it is
 // `lent`. Ends and borders count from 0. The first 6m entries of the working list, three for each
@@ -24,7 +24,6 @@ mod points;
 
 pub use distinct::is_distinct;
 pub use ends::other;
-pub use ends::wide;
 pub use joined::is_joined;
 pub use lists::count_marks;
 pub use lists::in_range;

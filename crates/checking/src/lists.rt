@@ -1,5 +1,5 @@
 // What one pass over each list tells: lengths, ranges, marks.
-use crate::ends::wide;
+use bits::wide;
 use format::MOST_ENDS;
 ghost use mathlib.Core.Path.{_≡_};
 ghost use mathlib.Core.List.{List};

@@ -1,5 +1,5 @@
 // Check 6: how many points there are, which are the cycles of the turning list.
-use crate::ends::wide;
+use bits::wide;
 ghost use mathlib.Core.Path.{_≡_};
 ghost use Prim.Native.Nat.{_*_};
 ghost use lib.ListN.{length};

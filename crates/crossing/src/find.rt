@@ -1,5 +1,5 @@
 // Check 7: two unmarked borders that alternate in the tour.
-use checking::wide;
+use bits::wide;
 use touring::border_in;
 ghost use mathlib.Core.Path.{_≡_};
 ghost use Prim.Native.Nat.{_+_, _*_, _<_};

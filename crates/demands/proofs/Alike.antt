@@ -24,7 +24,7 @@ use Rattle.words.proofs.Step.{step-below}
 use Rattle.words.proofs.Same.{mate-same, step-same, back-same, number-same, isFirst-same, isLast-same, first-same, size-same}
 use Rattle.drawing.specs.Drawing.{Kind}
 use Rattle.drawing.specs.Session.{Answer, answer, refused, Call}
-use Rattle.roundtrip.proofs.Crossing.{crossing-below}
+use Rattle.words.proofs.Crossing.{crossing-below}
 use Rattle.format.specs.Calls.{familyOfKind, moveIn, atPlace, firstIn, placesIn, joinIn}
 
 pub record Alike (v w : Word) : Type 0 where

@@ -21,7 +21,7 @@ use Rattle.words.proofs.Same.{step-same}
 use Rattle.drawing.specs.Drawing.{Drawing}
 use Rattle.format.specs.Bytes.{familyBit}
 use Rattle.format.specs.Pack.{opensBefore, endIn, positionIn, drawingOf}
-use Rattle.roundtrip.proofs.Crossing.{crossing-below}
+use Rattle.words.proofs.Crossing.{crossing-below}
 use Rattle.roundtrip.proofs.Ends.{position-in-below}
 use Rattle.demands.proofs.Alike.{Alike, word, seen-same, crossing-same}
 

@@ -41,7 +41,7 @@ use Rattle.agreement.proofs.Counts.{cells-agree, openings-round, openings-squar
 use Rattle.agreement.proofs.Nesting.{word-balanced}
 use Rattle.agreement.proofs.Steps.{cellWord}
 use Rattle.agreement.proofs.Book.{numbers-agree, book-call}
-use Rattle.roundtrip.proofs.Crossing.{mate-own, by-family}
+use Rattle.words.proofs.Crossing.{mate-own, by-family}
 use Rattle.demands.specs.Statements.{CellCounts, HasNumber, LastPlace, FirstPlace, TurnZero}
 use Rattle.demands.proofs.Answers.{opens-opened, packed-call}
 

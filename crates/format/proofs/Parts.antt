@@ -5,6 +5,7 @@
 -- map-length        == the map is as long as m and n say
 -- part-a-is, part-b-is == the parts of a map are the bytes of its strings
 -- part-a-length, part-b-length == the parts of bytes of the header's length have the lengths that the header says
+-- part-b-as         == a string has the bytes that its bits take, from its offset on
 -- part-a-small, part-b-small == parts of bytes are bytes
 -- parts-are         == bytes of the header's length are their header and their parts
 -- Assumes nothing.
@@ -28,7 +29,7 @@ part-a-as s =
     let k = bytesFor (bitsA (sizeIn s)) in
     let e : header + k - header ≡ k = omega arith in ap (λ x. take x (drop header s)) e
 
-part-b-as : (K : Family) (s : List ℕ) → partB K s ≡ take (bytesFor (bitsB K (sizeIn s))) (drop (startB K (sizeIn s)) s)
+pub part-b-as : (K : Family) (s : List ℕ) → partB K s ≡ take (bytesFor (bitsB K (sizeIn s))) (drop (startB K (sizeIn s)) s)
 unfolding partB startB mapLength
 part-b-as round s =
     let z = sizeIn s in

@@ -8,6 +8,7 @@
 //     map_length   the length of the whole map, as the header has it
 //     part_a       the bytes of A
 //     part_b       the bytes of B or B*
+//     start_b      where they begin
 //     family_bit   the bit that A has at the places of a family
 //
 // Conventions. Round brackets are those of B, square ones those of B*. A header byte past the end is 0,
@@ -27,3 +28,4 @@ pub use strings::family_bit;
 pub use strings::map_length;
 pub use strings::part_a;
 pub use strings::part_b;
+pub use strings::start_b;

@@ -62,7 +62,7 @@ pub fn family_bit(family: Family) -> usize
 }
 
 // Where B or B* begins.
-fn start_b(map: &[u8], family: Family) -> usize
+pub fn start_b(map: &[u8], family: Family) -> usize
     ensures { λ r. ⌜ (r ≡ startB family (sizeIn (now (map .entry)))) × (r ≤ 32772) ⌝ }
 {
     let first = HEADER + bytes_for(bits_a(map));

@@ -1,36 +1,137 @@
 -- The joining border: what the search about a point keeps from turn to turn, and what follows where it ends.
 --
+-- turned-round, turned-square == the position after p, by the bracket
+-- turned-mate     == it is the one after the partner
+-- left-at         == how many places of a point are left from a position on
 -- Joining         == the search from here answers what the whole search answers
 -- joining-start, joining-on == from one place to the next in turning order
--- joining-here, joining-none == the place where the crossing lands at v; 0 where none is left
--- join-empty, join-full == the search about u, from its first position
+-- joining-here    == the place where the crossing lands at v
+-- joining-end, joining-back == 0 after the point's last place
+-- joining-more    == no place is answered where more are left than are looked at
+-- found-early, found-full == what is a place or 0 is the answer; it is one if all places may be looked at
+-- mates-long, numbers-long == the lists of a map have 4,096 entries still
+-- join-empty, join-start, join-full == the search about u, from its first position
 -- join-declines, join-no-such == 8 to 12 and 14 for u; 14 for v
 -- join-answers    == the place that the search finds
 -- Assumes nothing.
 use mathlib.Core.Path.{_≡_, refl, sym, ap, _∙_}
+use mathlib.Core.Logic.{inl, inr}
 use mathlib.Core.Bool.{Bool, true, false, _&&_}
 use mathlib.Core.List.{List}
-use Prim.Native.Nat.{ℕ, suc, _+_, _-_}
+use Prim.Native.Nat.{ℕ, zero, suc, _+_, _-_, _<_, _≤_}
 use native.Mathlib.Omega.{arith}
-use borrow.Author.Tests.{eq-eqb, ne-eqb}
+use borrow.Author.Tests.{eq-eqb, ne-eqb, eqb-true, eqb-false}
 use lib.Dec.{eqb}
-use Rattle.count.specs.Below.{pick}
-use Rattle.words.specs.Brackets.{number, step, first}
+use lib.ListN.{length, drop, length-append, length-drop}
+use Rattle.count.specs.Below.{pick, count, table}
+use Rattle.count.proofs.Logic.{true-or-false}
+use Rattle.count.proofs.Counts.{count-yes, count-no, count-none, count-before}
+use Rattle.count.proofs.Lists.{table-length}
+use Rattle.words.specs.Brackets.{Bracket, Balanced, inner, mate, next, number, step, first, size}
+use Rattle.words.specs.declared.family.Family.{Family}
 use Rattle.words.specs.declared.family.Family.the-variants.{Round as round}
 use Rattle.words.specs.Word.{seen, Word, crossing}
+use Rattle.words.proofs.Stack.{inner-le}
+use Rattle.words.proofs.Step.{next-plain, next-last, step-below, inner-step}
+use Rattle.words.proofs.Numbers.{inner-number, number-inner}
+use Rattle.words.proofs.Order.{walk-rises, walk-returns}
+use Rattle.bits.specs.Strings.{bit}
 use Rattle.drawing.specs.Drawing.{Kind}
+use Rattle.drawing.specs.Laid.{laid}
 use Rattle.drawing.specs.Session.{Answer, answer, refused}
-use Rattle.format.specs.Bytes.{sizeIn, bitsA, wordIn}
+use Rattle.format.specs.Bytes.{sizeIn, bitsA, partA, wordIn}
 use Rattle.format.specs.Calls.{isNumber, joinIn, placesIn, joiningOf}
-use Rattle.format.specs.Open.{opened}
+use Rattle.format.specs.Open.{opened, openRefusal}
 use Rattle.opening.specs.declared.answers.Point.{Point}
 use Rattle.opening.specs.declared.answers.Cell.{Cell}
 use Rattle.opening.specs.Checks.{cellRefusal}
 use Rattle.opening.proofs.Passed.{cell-declines, cell-answers}
-use Rattle.sizing.proofs.Counting.{size-none}
-use Rattle.map.specs.Joined.{joinedIn}
-use Rattle.walking.specs.Positions.{Position}
+use Rattle.sizing.proofs.Counting.{size-none, first-itself, size-some}
+use Rattle.map.specs.Joined.{joinedIn, joinedFrom, Start, Found, turnedIn}
+use Rattle.walking.specs.Positions.{Position, Numbered}
+use Rattle.walking.proofs.Decoded.{nested, places-most}
+use Rattle.walking.proofs.Walks.{mate-other}
+use Rattle.surveying.specs.Surveyed.{matesIn, numbersIn}
+use Rattle.surveying.proofs.Looked.{mate-in-own}
 
+-- ---- the bracket after p
+module _ (a : List ℕ) (p q x : ℕ) (hx : x ≡ bit a p) where
+  turned-by : Bool → ℕ
+  turned-by t = pick t q p + 1
+
+  pub turned-round : x ≡ 1 → q + 1 ≡ turnedIn a p q
+  unfolding turnedIn turned-by
+  turned-round e = sym (ap turned-by (eq-eqb (bit a p) 1 (sym hx ∙ e)))
+
+  pub turned-square : (x ≡ 1 → ⊥) → p + 1 ≡ turnedIn a p q
+  unfolding turnedIn turned-by
+  turned-square m = sym (ap turned-by (ne-eqb (bit a p) 1 (λ y. m (hx ∙ y))))
+
+module _ (s a : List ℕ) (p q r : ℕ) (P : Position s p) (ha : a ≡ partA s) (C : q ≡ crossing (wordIn s) p) (h : r ≡ turnedIn a p q) where
+  turned-to : (t : Bool) → eqb (bit a p) 1 ≡ t → r ≡ pick t q p + 1
+  unfolding turnedIn
+  turned-to t e = h ∙ ap (λ x. pick x q p + 1) e
+
+  pub turned-mate : r ≡ mate (seen round (wordIn s)) (bitsA (sizeIn s)) p + 1
+  turned-mate =
+      elim (true-or-false (eqb (bit a p) 1)) [
+        | inl t ↦ turned-to true t ∙ ap (λ x. x + 1) (mate-in-own s round p a 1 (bit a p) q ha refl refl (eqb-true (bit a p) 1 t) C)
+        | inr t ↦ turned-to false t ∙ ap (λ x. x + 1) (mate-other s round p P a 1 (bit a p) refl ha refl (eqb-false (bit a p) 1 t))
+      ]
+
+-- ---- how many places are left
+count-gap : (P : ℕ → Bool) (i k : ℕ) → ((x : ℕ) → i ≤ x → x < i + k → P x ≡ false) → count P (i + k) ≡ count P i
+count-gap P i zero none = ap (count P) (omega arith)
+count-gap P i (suc k) none =
+    let e : i + suc k ≡ i + k + 1 = omega arith in
+    ap (count P) e ∙ count-no P (i + k) (none (i + k) (omega arith) (omega arith)) ∙ count-gap P i k (λ x l m. none x l (omega arith))
+
+count-next : (P : ℕ → Bool) (p r : ℕ) → P p ≡ true → p < r → ((x : ℕ) → p < x → x < r → P x ≡ false) → count P r ≡ count P p + 1
+count-next P p r h l none =
+    let e : r ≡ p + 1 + (r - (p + 1)) = omega arith in
+    ap (count P) e ∙ count-gap P (p + 1) (r - (p + 1)) (λ x i j. none x (omega arith) (omega arith)) ∙ count-yes P p h
+
+module _ (b : ℕ → Bracket) (n f : ℕ) where
+  about : ℕ → Bool
+  about q = eqb (number b q) (number b f)
+
+  about-yes : (q : ℕ) → inner b q ≡ inner b f → about q ≡ true
+  unfolding about
+  about-yes q e = eq-eqb (number b q) (number b f) (inner-number b q f e)
+
+  about-no : (q : ℕ) → (inner b q ≡ inner b f → ⊥) → about q ≡ false
+  unfolding about
+  about-no q m = ne-eqb (number b q) (number b f) (λ e. m (number-inner b q f e))
+
+  pub left-at : ℕ → ℕ
+  left-at p = count about n - count about p
+
+  left-start : inner b f ≡ f → left-at f ≡ size b n (number b f)
+  unfolding size left-at about
+  left-start i =
+      let z = count-none about f (λ x l. about-no x (λ e. omega (arith, inner-le b x))) in
+      omega arith
+
+  module _ (bal : Balanced b n) (p : ℕ) (l : p < n) (o : inner b p ≡ inner b f) where
+    left-some : left-at p ≡ suc (left-at p - 1)
+    unfolding left-at
+    left-some = omega (arith, count-before about p n l (about-yes p o))
+
+    left-next : p < step b n p → left-at p ≡ suc (left-at (step b n p))
+    unfolding left-at
+    left-next h =
+        let t = count-next about p (step b n p) (about-yes p o) h (λ x i j. about-no x (λ e. walk-rises b n bal p l x h i j (e ∙ sym o))) in
+        let k = step-below b n bal p l in
+        let y = count-before about (step b n p) n k (about-yes (step b n p) (inner-step b n bal p l ∙ o)) in
+        omega arith
+
+    left-last : step b n p ≤ p → left-at p ≡ 1
+    unfolding left-at
+    left-last h =
+        let t = count-next about p n (about-yes p o) l (λ x i j. about-no x (λ e. walk-returns b n bal p l h .1 x i j (e ∙ sym o))) in
+        omega arith
+
+-- ---- the search from a place on
 module _ (w : Word) (v : ℕ) where
   join-zero : (p : ℕ) → joinIn w v 0 p ≡ 0
   unfolding joinIn
@@ -44,38 +145,114 @@ module _ (w : Word) (v : ℕ) where
   unfolding joinIn
   join-no k p e = rw (e, joinIn)
 
-module _ (s : List ℕ) (v k f : ℕ) where
+module _ (s : List ℕ) (v f most : ℕ) where
+  -- how many places there are from p on
+  pub rest-at : ℕ → ℕ
+  rest-at p = left-at (seen round (wordIn s)) (bitsA (sizeIn s)) f p
+
   pub record Joining (p left : ℕ) : Type 0 where
     pub at : Position s p
-    pub rest : joinIn (wordIn s) v left p ≡ joinIn (wordIn s) v k f
+    pub of : inner (seen round (wordIn s)) p ≡ inner (seen round (wordIn s)) f
+    pub rest : joinIn (wordIn s) v (rest-at p) p ≡ joinedFrom s v f
+    pub room : bitsA (sizeIn s) ≤ most → bitsA (sizeIn s) ≤ p + left
 
-  pub joining-start : Position s f → Joining f k
-  joining-start P = record { at = P; rest = refl }
+  pub joining-start : Start s f → Joining f most
+  unfolding rest-at
+  joining-start S =
+      record {
+        at = S .at;
+        of = refl;
+        rest = ap (λ k. joinIn (wordIn s) v k f) (left-start (seen round (wordIn s)) (bitsA (sizeIn s)) f (S .itself));
+        room = λ h. omega arith;
+      }
 
   module _ (p left : ℕ) (J : Joining p left) where
-    pub joining-none : left ≡ 0 → 0 ≡ joinIn (wordIn s) v k f
-    joining-none z = sym (ap (λ x. joinIn (wordIn s) v x p) z ∙ join-zero (wordIn s) v p) ∙ J .rest
+    pub joining-more : (n : ℕ) → n ≡ bitsA (sizeIn s) → left ≡ 0 → Found s v f most (n + 1)
+    joining-more n e z =
+        record { is = λ h. absurd (omega arith); enough = λ h. absurd (omega (arith, J .room h, J .at .below)) }
 
     lands : (q x : ℕ) → q ≡ crossing (wordIn s) p → x ≡ number (seen round (wordIn s)) q → number (seen round (wordIn s)) (crossing (wordIn s) p) ≡ x
     lands q x C e = ap (number (seen round (wordIn s))) (sym C) ∙ sym e
 
-    pub joining-here : (q x : ℕ) → (left ≡ 0 → ⊥) → q ≡ crossing (wordIn s) p → x ≡ number (seen round (wordIn s)) q → x ≡ v
-        → p + 1 ≡ joinIn (wordIn s) v k f
-    joining-here q x m C e h =
-        let i : left ≡ suc (left - 1) = omega arith in
-        let t = eq-eqb (number (seen round (wordIn s)) (crossing (wordIn s) p)) v (lands q x C e ∙ h) in
-        let z : joinIn (wordIn s) v left p ≡ suc p = ap (λ y. joinIn (wordIn s) v y p) i ∙ join-yes (wordIn s) v (left - 1) p t in
-        omega (arith, J .rest)
+    some : rest-at p ≡ suc (rest-at p - 1)
+    unfolding rest-at
+    some = left-some (seen round (wordIn s)) (bitsA (sizeIn s)) f (nested s round (J .at .opens)) p (J .at .below) (J .of)
 
-    pub joining-on : (q x r : ℕ) → (left ≡ 0 → ⊥) → q ≡ crossing (wordIn s) p → x ≡ number (seen round (wordIn s)) q → (x ≡ v → ⊥)
-        → r ≡ step (seen round (wordIn s)) (bitsA (sizeIn s)) p → Position s r → Joining r (left - 1)
-    unfolding wordIn
-    joining-on q x r m C e h g P =
-        let i : left ≡ suc (left - 1) = omega arith in
-        let t = ne-eqb (number (seen round (wordIn s)) (crossing (wordIn s) p)) v (λ y. h (sym (lands q x C e) ∙ y)) in
-        let z : joinIn (wordIn s) v left p ≡ joinIn (wordIn s) v (left - 1) (step (seen round (wordIn s)) (bitsA (sizeIn s)) p)
-        = ap (λ y. joinIn (wordIn s) v y p) i ∙ join-no (wordIn s) v (left - 1) p t in
-        record { at = P; rest = ap (joinIn (wordIn s) v (left - 1)) g ∙ sym z ∙ J .rest }
+    pub joining-here : (q x : ℕ) → q ≡ crossing (wordIn s) p → x ≡ number (seen round (wordIn s)) q → x ≡ v → Found s v f most (p + 1)
+    joining-here q x C e h =
+        let t = eq-eqb (number (seen round (wordIn s)) (crossing (wordIn s) p)) v (lands q x C e ∙ h) in
+        let z : joinIn (wordIn s) v (rest-at p) p ≡ suc p = ap (λ y. joinIn (wordIn s) v y p) some ∙ join-yes (wordIn s) v (rest-at p - 1) p t in
+        record { is = λ l. omega (arith, J .rest); enough = λ l. omega (arith, J .at .below) }
+
+    module _ (a : List ℕ) (n q x r : ℕ) (ha : a ≡ partA s) (hn : n ≡ bitsA (sizeIn s)) (C : q ≡ crossing (wordIn s) p)
+        (e : x ≡ number (seen round (wordIn s)) q) (m : x ≡ v → ⊥) (h : r ≡ turnedIn a p q) where
+      on : (k : ℕ) → rest-at p ≡ suc k → joinIn (wordIn s) v k (step (seen round (wordIn s)) (bitsA (sizeIn s)) p) ≡ joinedFrom s v f
+      unfolding wordIn
+      on k i =
+          let o = ne-eqb (number (seen round (wordIn s)) (crossing (wordIn s) p)) v (λ y. m (sym (lands q x C e) ∙ y)) in
+          sym (ap (λ y. joinIn (wordIn s) v y p) i ∙ join-no (wordIn s) v k p o) ∙ J .rest
+
+      last : step (seen round (wordIn s)) (bitsA (sizeIn s)) p ≤ p → Found s v f most 0
+      unfolding rest-at
+      last z =
+          let i = left-last (seen round (wordIn s)) (bitsA (sizeIn s)) f (nested s round (J .at .opens)) p (J .at .below) (J .of) z in
+          record { is = λ l. sym (join-zero (wordIn s) v (step (seen round (wordIn s)) (bitsA (sizeIn s)) p)) ∙ on 0 i; enough = λ l. omega arith }
+
+      after : step (seen round (wordIn s)) (bitsA (sizeIn s)) p ≡ next (bitsA (sizeIn s)) (mate (seen round (wordIn s)) (bitsA (sizeIn s)) p)
+      unfolding step
+      after = refl
+
+      beyond : (r ≡ n → ⊥) → step (seen round (wordIn s)) (bitsA (sizeIn s)) p ≡ r
+      beyond z =
+          let t = turned-mate s a p q r (J .at) ha C h in
+          after ∙ next-plain (bitsA (sizeIn s)) (mate (seen round (wordIn s)) (bitsA (sizeIn s)) p) (λ y. z (t ∙ y ∙ sym hn)) ∙ sym t
+
+      pub joining-end : r ≡ n → Found s v f most 0
+      joining-end z =
+          let t = turned-mate s a p q r (J .at) ha C h in
+          let y = next-last (bitsA (sizeIn s)) (mate (seen round (wordIn s)) (bitsA (sizeIn s)) p) (sym t ∙ z ∙ hn) in
+          last (omega (arith, after))
+
+      pub joining-back : r ≤ p → Found s v f most 0
+      joining-back z = last (omega (arith, beyond (λ y. omega (arith, J .at .below))))
+
+      pub joining-on : (left ≡ 0 → ⊥) → p < r → (r ≡ n → ⊥) → Joining r (left - 1)
+      unfolding rest-at
+      joining-on u z y =
+          let b = seen round (wordIn s) in
+          let bal = nested s round (J .at .opens) in
+          let k = beyond y in
+          let l = step-below b (bitsA (sizeIn s)) bal p (J .at .below) in
+          let i = left-next b (bitsA (sizeIn s)) f bal p (J .at .below) (J .of) (omega arith) in
+          record {
+            at = record { opens = J .at .opens; below = omega arith; few = omega (arith, places-most s (J .at .opens)) };
+            of = ap (inner b) (sym k) ∙ inner-step b (bitsA (sizeIn s)) bal p (J .at .below) ∙ J .of;
+            rest = ap (λ c. joinIn (wordIn s) v (rest-at c) c) (sym k) ∙ on (rest-at (step b (bitsA (sizeIn s)) p)) i;
+            room = λ g. omega (arith, J .room g);
+          }
+
+module _ (s : List ℕ) (v f most n r : ℕ) (hn : n ≡ bitsA (sizeIn s)) (F : Found s v f most r) where
+  pub found-early : r ≤ n → r ≡ joinedFrom s v f
+  found-early h = F .is (omega arith)
+
+  pub found-full : most ≡ n → r ≡ joinedFrom s v f
+  found-full e = F .is (F .enough (omega arith))
+
+-- ---- lists of the whole map
+module _ (s old l : List ℕ) (O : openRefusal s ≡ 0) (h : length old ≡ 4096) where
+  laid-long : (f : ℕ → ℕ) → l ≡ laid (table f (bitsA (sizeIn s))) old → 4096 ≡ length l
+  laid-long f e =
+      let new : List ℕ = table f (bitsA (sizeIn s)) in
+      let t : length l ≡ length (laid new old) = ap length e in
+      omega (arith, t, table-length f (bitsA (sizeIn s)), places-most s O, length-append new (drop (length new) old), length-drop (length new) old)
+
+  pub mates-long : l ≡ laid (matesIn s) old → 4096 ≡ length l
+  unfolding matesIn
+  mates-long e = laid-long (crossing (wordIn s)) e
+
+  pub numbers-long : (K : Family) → l ≡ laid (numbersIn K s) old → 4096 ≡ length l
+  unfolding numbersIn
+  numbers-long K e = laid-long (number (seen K (wordIn s))) e
 
 -- ---- the search about u
 module _ (s : List ℕ) (u : Point) (v n : ℕ) (hn : n ≡ bitsA (sizeIn s)) where
@@ -84,9 +261,14 @@ module _ (s : List ℕ) (u : Point) (v n : ℕ) (hn : n ≡ bitsA (sizeIn s)) wh
       let x = first (seen round (wordIn s)) (bitsA (sizeIn s)) (u .0) in
       sym (ap (λ k. joinIn (wordIn s) v k x) (sym (size-none s (Cell.Point u) n hn z)) ∙ join-zero (wordIn s) v x)
 
-  pub join-full : (k f r : ℕ) → k ≡ placesIn (wordIn s) Kind.point (u .0) → f ≡ first (seen round (wordIn s)) (bitsA (sizeIn s)) (u .0)
-      → r ≡ joinIn (wordIn s) v k f → r ≡ joinedIn s (u .0) v
-  join-full k f r e g h = h ∙ ap (λ x. joinIn (wordIn s) v x f) e ∙ ap (joinIn (wordIn s) v (placesIn (wordIn s) Kind.point (u .0))) g
+  module _ (f : ℕ) (N : Numbered s (Cell.Point u)) (m : n ≡ 0 → ⊥) (e : f ≡ first (seen round (wordIn s)) (bitsA (sizeIn s)) (u .0)) where
+    pub join-start : Position s f → Start s f
+    join-start P = record { at = P; itself = first-itself s (Cell.Point u) n hn round f N m refl e }
+
+    pub join-full : (r : ℕ) → r ≡ joinedFrom s v f → r ≡ joinedIn s (u .0) v
+    join-full r h =
+        let k = size-some s (Cell.Point u) n hn round f N m refl e (size (seen round (wordIn s)) (bitsA (sizeIn s)) (number (seen round (wordIn s)) f)) refl in
+        h ∙ ap (λ x. joinIn (wordIn s) v x f) k ∙ ap (joinIn (wordIn s) v (placesIn (wordIn s) Kind.point (u .0))) e
 
 -- ---- what is answered: two tests, one number
 picked-both : (x y : Bool) (a z : Answer ℕ) → pick (x && y) a z ≡ pick x (pick y a z) z

@@ -1,5 +1,4 @@
 -- Moves and numbers on a packed map: the laws.
 pub mod Moved
-pub mod Turns
 pub mod Cells
 pub mod Joins

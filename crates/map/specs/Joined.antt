@@ -1,16 +1,42 @@
 -- The joining border of two points of a map that opens.
 --
--- joinedIn s u v == the joining border of u and v, once both are points of s
+-- joinedIn s u v     == the joining border of u and v, once both are points of s
+-- Start s f          == f is the first position of its point
+-- joinedFrom s v f   == the joining border of v and the point whose first position is f
+-- Found s v f most r == r is it, where r is a place or 0; so it is where no more than `most` places are to be looked at
+-- turnedIn a p q     == the position after p about the same point, if a higher one is left; q is the partner of p, a the string A
 -- Assumes nothing.
+use mathlib.Core.Path.{_≡_}
 use mathlib.Core.List.{List}
-use Prim.Native.Nat.{ℕ}
-use Rattle.words.specs.Brackets.{first}
+use Prim.Native.Nat.{ℕ, _+_, _≤_}
+use lib.Dec.{eqb}
+use Rattle.count.specs.Below.{pick}
+use Rattle.words.specs.Brackets.{inner, number, first, size}
 use Rattle.words.specs.declared.family.Family.the-variants.{Round as round}
 use Rattle.words.specs.Word.{seen}
+use Rattle.bits.specs.Strings.{bit}
 use Rattle.drawing.specs.Drawing.{Kind}
 use Rattle.format.specs.Bytes.{sizeIn, bitsA, wordIn}
 use Rattle.format.specs.Calls.{placesIn, joinIn}
+use Rattle.walking.specs.Positions.{Position}
 
 -- 01, Moves: "the search stops at the first place about u, in turning order, whose crossing lands at v"
 abbrev pub joinedIn : List ℕ → ℕ → ℕ → ℕ
 joinedIn s u v = joinIn (wordIn s) v (placesIn (wordIn s) Kind.point u) (first (seen round (wordIn s)) (bitsA (sizeIn s)) u)
+
+pub record Start (s : List ℕ) (f : ℕ) : Type 0 where
+  pub at : Position s f
+  pub itself : inner (seen round (wordIn s)) f ≡ f
+
+abbrev pub joinedFrom : List ℕ → ℕ → ℕ → ℕ
+joinedFrom s v f =
+    joinIn (wordIn s) v (size (seen round (wordIn s)) (bitsA (sizeIn s)) (number (seen round (wordIn s)) f)) f
+
+pub record Found (s : List ℕ) (v f most r : ℕ) : Type 0 where
+  pub is : r ≤ bitsA (sizeIn s) → r ≡ joinedFrom s v f
+  pub enough : bitsA (sizeIn s) ≤ most → r ≤ bitsA (sizeIn s)
+
+-- 01, Tour: "A: bit i is 1 if place i is of a marked border": its brackets are round, and the next place is after the partner
+unfoldable pub turnedIn : List ℕ → ℕ → ℕ → ℕ
+unfolding bit
+turnedIn a p q = pick (eqb (bit a p) 1) q p + 1

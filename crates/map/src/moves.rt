@@ -1,11 +1,12 @@
 // The four moves: from a place to a place.
-use layout::bits_a;
 use opening::Place;
 use opening::PlaceAnswer;
 use opening::place_refusal;
 use walking::crossing_at;
 use walking::mate_at;
 use walking::step_at;
+use walking::turn_back_past;
+use walking::turn_past;
 use words::Family;
 ghost use mathlib.Core.Path.{_≡_};
 ghost use Rattle.drawing.specs.Session.{Call};
@@ -64,24 +65,16 @@ pub fn along(map: &[u8], place: Place) -> PlaceAnswer
     PlaceAnswer::At(Place(ahead))
 }
 
-// 0 at a closing bracket, whose partner lies before it, and where the partner is the last place; else
-// the place after the partner.
+// Turn, by the partner among the round brackets.
 fn turn_from(map: &[u8], p: usize) -> usize
     requires { ⌜ Position (now map) p ⌝ }
     ensures { λ r. ⌜ r ≡ moveIn (wordIn (now (map .entry))) Call.turn p ⌝ }
 {
     let q = mate_at(map, Family::Round, p);
-    if q < p {
-        return 0;
-    }
-    if q + 1 == bits_a(map) {
-        return 0;
-    }
-    q + 2
+    turn_past(map, p, q)
 }
 
-// 0 at the first place and after an opening bracket, whose partner lies after it; else the place of
-// the partner of the position before.
+// Turn back, by the partner of the position before; 0 at the first place.
 fn turn_back_from(map: &[u8], p: usize) -> usize
     requires { ⌜ Position (now map) p ⌝ }
     ensures { λ r. ⌜ r ≡ moveIn (wordIn (now (map .entry))) Call.turn-back p ⌝ }
@@ -90,5 +83,5 @@ fn turn_back_from(map: &[u8], p: usize) -> usize
         return 0;
     }
     let q = mate_at(map, Family::Round, p - 1);
-    if q < p { q + 1 } else { 0 }
+    turn_back_past(map, p, q)
 }

@@ -1,5 +1,6 @@
 // The search for the joining border of two points.
 use layout::bits_a;
+use layout::part_a;
 use opening::Cell;
 use opening::Place;
 use opening::PlaceAnswer;
@@ -7,17 +8,28 @@ use opening::Point;
 use opening::cell_refusal;
 use opening::is_number;
 use sizing::size_at;
-use walking::crossing_at;
+use surveying::crossing_in;
+use surveying::point_in;
+use surveying::survey;
 use walking::first_at;
-use walking::point_of;
-use walking::step_at;
-use words::Family;
 ghost use mathlib.Core.Path.{_≡_};
-ghost use Rattle.format.specs.Bytes.{wordIn};
-ghost use Rattle.format.specs.Calls.{joinIn, joiningOf};
+ghost use Prim.Native.Nat.{_<_};
+ghost use Rattle.words.specs.declared.family.Family.the-variants.{Round as round};
+ghost use Rattle.format.specs.Bytes.{sizeIn, bitsA};
+ghost use Rattle.format.specs.Calls.{joiningOf};
 ghost use Rattle.opening.specs.Answers.{placeMeans};
-ghost use Rattle.walking.specs.Positions.{Position, Numbered};
-ghost use Rattle.map.specs.Joined.{joinedIn};
+ghost use Rattle.walking.specs.Positions.{Numbered};
+ghost use Rattle.surveying.specs.Surveyed.{Mates, Numbers};
+ghost use Rattle.map.specs.Joined.{joinedIn, joinedFrom, Start, Found, turnedIn};
+
+// Places that are surveyed in the time of looking at one by walking, as measured on many maps in turn.
+const WALK: usize = 64;
+
+// Places that are looked at by walking in the time that the survey of a small map takes.
+const LEAST: usize = 12;
+
+// How many of many places are looked at before the map is surveyed.
+const FIRST: usize = 1;
 
 // The first place about u, in turning order, whose crossing lands at v; 0 if none does.
 pub fn joining(map: &[u8], u: Point, v: Point) -> PlaceAnswer
@@ -43,27 +55,79 @@ fn join_at(map: &[u8], u: Point, v: Point) -> usize
         return 0;
     }
     let about = Cell::Point(u);
-    join_from(map, v, size_at(map, about), first_at(map, about))
+    join_about(map, v, size_at(map, about), first_at(map, about))
 }
 
-// The first of k places from position f on, in turning order, whose crossing lands at v.
-fn join_from(map: &[u8], v: Point, k: usize, f: usize) -> usize
-    requires { ⌜ Position (now map) f ⌝ }
-    ensures { λ r. ⌜ r ≡ joinIn (wordIn (now (map .entry))) (v .0) k f ⌝ }
+// Few places are looked at by walking through the bytes. Of many, k, the first ones; where none of them lands at v, the map is
+// surveyed, once for all of them. The answer does not depend on k.
+fn join_about(map: &[u8], v: Point, k: usize, f: usize) -> usize
+    requires { ⌜ Start (now map) f ⌝ }
+    ensures { λ r. ⌜ r ≡ joinedFrom (now (map .entry)) (v .0) f ⌝ }
 {
+    let none = [0u16; 0];
+    let n = bits_a(map);
+    let early = join_from(map, &none, &none, v, walked(n, k), f);
+    if early <= n {
+        return early;
+    }
+    join_surveyed(map, v, n, f)
+}
+
+// The same, looked up in lists of the whole map of n places.
+fn join_surveyed(map: &[u8], v: Point, n: usize, f: usize) -> usize
+    requires { ⌜ Start (now map) f × (n ≡ bitsA (sizeIn (now map))) ⌝ }
+    ensures { λ r. ⌜ r ≡ joinedFrom (now (map .entry)) (v .0) f ⌝ }
+{
+    let mut mates = [0u16; 4096];
+    let mut areas = [0u16; 4096];
+    let mut points = [0u16; 4096];
+    survey(map, &mut mates, &mut areas, &mut points);
+    join_from(map, &mates, &points, v, n, f)
+}
+
+// How many of k places are looked at by walking, in a map of n places: all, where a survey would take longer.
+fn walked(n: usize, k: usize) -> usize {
+    if k < n / WALK + LEAST { n } else { FIRST }
+}
+
+// The first place about a point, in turning order from its first position f on, whose crossing lands at v; 0 where none does.
+// Turning leads to higher positions until the point's last. Of more than `most` places the others are not looked at: where they
+// may be needed, a number that is no place is answered.
+fn join_from(map: &[u8], mates: &[u16], points: &[u16], v: Point, most: usize, f: usize) -> usize
+    requires { ⌜ Start (now map) f × Mates (now map) (now mates) × Numbers round (now map) (now points) ⌝ }
+    ensures { λ r. ⌜ Found (now (map .entry)) (v .0) f most r ⌝ }
+{
+    let a = part_a(map);
+    let n = bits_a(map);
     let to = v.0;
     let mut p = f;
-    let mut left = k;
+    let mut left = most;
     let found = loop {
         if left == 0 {
-            break 0;
+            break n + 1;
         }
-        let at = point_of(map, crossing_at(map, p));
+        let q = crossing_in(map, mates, p);
+        let at = point_in(map, points, q);
         if at.0 == to {
             break p + 1;
         }
-        p = step_at(map, Family::Round, p);
+        let r = turned(a, p, q);
+        if r <= p {
+            break 0;
+        }
+        if r == n {
+            break 0;
+        }
+        p = r;
         left -= 1;
     };
     found
+}
+
+// The position after p, where q is the partner of p: after q if p is a round bracket, which the string A, a, tells.
+fn turned(a: &[u8], p: usize, q: usize) -> usize
+    requires { ⌜ (p < 4096) × (q < 4096) ⌝ }
+    ensures { λ r. ⌜ r ≡ turnedIn (now (a .entry)) p q ⌝ }
+{
+    if bits::bit(a, p) == 1 { q + 1 } else { p + 1 }
 }

@@ -3,17 +3,19 @@
 -- status-same, cell-same == equal answers have one status, and leave one cell
 -- borders-value, points-value == m and n in an answer that fits are below 65,536
 -- borders-same, points-same, borders-fit, points-fit == the same of opening, which has two cells
+-- left-status == the place left by a session, or its refusal, has the session's status
 -- value-all, call-all, open-all == what the proofs search
 -- Assumes nothing.
-use mathlib.Core.Path.{_≡_, ap, _∙_}
+use mathlib.Core.Path.{_≡_, refl, ap, _∙_}
 use mathlib.Core.List.{List}
 use Prim.Native.Nat.{ℕ, _<_}
 use borrow.Author.Needs.{needs}
-use Rattle.drawing.specs.Session.{Answer, numberOf, valueOf}
+use Rattle.drawing.specs.Session.{Answer, answer, refused, numberOf, valueOf, Outcome}
 use Rattle.format.specs.Bytes.{Size}
 use Rattle.format.specs.Open.{openOf}
 use Rattle.opening.specs.declared.answers.Opened.{Opened}
 use Rattle.opening.specs.Answers.{openedMeans}
+use Rattle.running.specs.Runs.{placeLeft}
 use Rattle.pmap.specs.Cells.{cellAfter, bordersGiven, pointsGiven}
 use Rattle.format.proofs.Small.{cross-fits, turn-fits, turn-back-fits, along-fits, point-fits, area-fits, first-fits, size-fits, neighbours-fit, joining-fits}
 use Rattle.opening.proofs.Values.{place-value, point-value, area-value, count-value}
@@ -55,3 +57,12 @@ module _ (s : List ℕ) (a : Answer Size) where
   points-fit e = rw e (open-small s .1)
 
 pub ruleset open-all = (status-same, borders-same, points-same, borders-fit, points-fit, needs)
+
+-- ---- a session
+number-left : (o : Answer Outcome) → numberOf (placeLeft o) ≡ numberOf o
+unfolding numberOf
+number-left (answer x) = refl
+number-left (refused k) = refl
+
+pub left-status : (r : ℕ) (a : Answer ℕ) (o : Answer Outcome) → r ≡ numberOf a → a ≡ placeLeft o → r ≡ numberOf o
+left-status r a o h e = h ∙ ap numberOf e ∙ number-left o

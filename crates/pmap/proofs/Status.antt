@@ -1,7 +1,7 @@
 -- A status of 0 is success: no call declines with the number 0.
 --
 -- own-tells  == so of a call's own answer after its checks
--- move-tells, first-tells, size-tells, joining-tells, open-tells, pack-tells, unpack-tells == so of every call
+-- move-tells, first-tells, size-tells, joining-tells, open-tells, session-tells, pack-tells, unpack-tells == so of every call
 -- Assumes nothing.
 use mathlib.Core.Path.{_≡_, refl}
 use mathlib.Core.Bool.{Bool, true, false, _&&_}
@@ -9,16 +9,19 @@ use mathlib.Core.List.{List}
 use Prim.Native.Nat.{ℕ, zero, suc, pred, _*_}
 use native.Mathlib.Omega.{arith}
 use lib.Dec.{ltb, leb}
+use lib.ListN.{length}
 use Rattle.count.specs.Below.{pick}
 use Rattle.words.specs.Brackets.{first}
 use Rattle.words.specs.declared.family.Family.the-variants.{Round as round}
 use Rattle.words.specs.Word.{seen}
 use Rattle.drawing.specs.Drawing.{Drawing, Kind}
-use Rattle.drawing.specs.Session.{Answer, answer, refused, numberOf, Call}
+use Rattle.drawing.specs.Session.{Answer, answer, refused, numberOf, Call, Outcome}
 use Rattle.drawing.specs.Book.{noSuch}
 use Rattle.format.specs.Bytes.{sizeIn, wordIn}
 use Rattle.format.specs.Open.{openRefusal, afterRefusal, opened, openOf}
-use Rattle.format.specs.Calls.{moveIn, atPlace, mapAnswer, isNumber, firstIn, firstOf, placesIn, sizeOf, joinIn, joiningOf}
+use Rattle.format.specs.Calls.{moveIn, atPlace, mapAnswer, mapSession, isNumber, firstIn, firstOf, placesIn, sizeOf, joinIn, joiningOf}
+use Rattle.running.specs.Codes.{callsOf, areCalls, noCall}
+use Rattle.running.specs.Runs.{runOf, ranOf}
 use Rattle.format.specs.Pack.{packedBytes, packRefusal, packOf, drawingOf, unpackOf}
 use Rattle.pmap.specs.Cells.{Tells}
 
@@ -37,6 +40,11 @@ opened-tells (suc o) a h = refused-tells (suc o) (λ e. omega arith)
 own-tells : {A : Type 0} (t : Bool) (x : A) (k : ℕ) → (k ≡ 0 → ⊥) → Tells (pick t (answer x) (refused k))
 own-tells true x k m = answer-tells x
 own-tells false x k m = refused-tells k m
+
+-- where lists are too short, 2
+run-tells : {A : Type 0} (t : Bool) (a : Answer A) → Tells a → Tells (pick t a (refused 2))
+run-tells true a h = h
+run-tells false a h = refused-tells 2 (λ e. omega arith)
 
 no-such-some : (c : Kind) → noSuch c ≡ 0 → ⊥
 no-such-some Kind.point e = omega arith
@@ -72,6 +80,14 @@ module _ (s : List ℕ) where
       let t : Bool = isNumber (sizeIn s) Kind.point u && isNumber (sizeIn s) Kind.point v in
       let x : ℕ = joinIn (wordIn s) v (placesIn (wordIn s) Kind.point u) (first (seen round (wordIn s)) (wordIn s .size) u) in
       opened-tells (openRefusal s) (pick t (answer x) (refused 14)) (own-tells t x 14 (λ e. omega arith))
+
+  pub session-tells : (i : ℕ) (ks : List ℕ) (k l : ℕ) → Tells (ranOf s i ks k l)
+  unfolding ranOf runOf opened
+  session-tells i ks k l =
+      let o : Outcome = mapSession s i (callsOf ks) in
+      opened-tells (openRefusal s) (runOf ks k l o)
+      (run-tells (leb (length ks) k && leb (length ks) l) (pick (areCalls ks) (answer o) (refused noCall))
+      (own-tells (areCalls ks) o noCall (λ e. omega arith)))
 
   pub unpack-tells : (t k : ℕ) → Tells (unpackOf s t k)
   unfolding unpackOf opened

@@ -6,6 +6,7 @@
 //     pmap_point_first, pmap_degree                          of a point
 //     pmap_area_first, pmap_sides, pmap_neighbours           of an area
 //     pmap_joining                                           the joining border of two points
+//     pmap_session                                           a list of calls in one: moves, points and areas
 //     pmap_pack, pmap_unpack                                 from a drawing to a map, and back
 //
 // Conventions. Each function returns a status: 0, or the number of the check that declines. The answer goes to
@@ -14,14 +15,16 @@
 // that 7 carries. Numbers come in as usize, so that nothing is cut: place 65,537 is declined, not taken for 1. No
 // function asks anything of its caller.
 //
-// The functions only pass on what the crates `opening`, `map`, `packing` and `unpacking` answer. The definitions that the
-// contracts cite are those of the crate `format`, with `packing` and `unpacking` for the lists that are lent to them;
-// specs/Cells.antt says what a cell holds after a call, specs/Desk.antt what pmap_pack returns.
+// The functions only pass on what the crates `opening`, `map`, `running`, `packing` and `unpacking` answer. The
+// definitions that the contracts cite are those of the crate `format`, with `running`, `packing` and `unpacking` for the
+// lists that are lent to them; specs/Cells.antt says what a cell holds after a call, specs/Desk.antt what pmap_pack
+// returns.
 mod areas;
 mod cells;
 mod desk;
 mod places;
 mod points;
+mod session;
 mod size;
 
 pub use areas::pmap_area_first;
@@ -38,4 +41,5 @@ pub use places::pmap_turn_back;
 pub use points::pmap_degree;
 pub use points::pmap_joining;
 pub use points::pmap_point_first;
+pub use session::pmap_session;
 pub use size::pmap_open;

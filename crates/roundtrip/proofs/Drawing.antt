@@ -41,7 +41,7 @@ use Rattle.format.specs.Calls.{familyOfKind}
 use Rattle.format.specs.Pack.{opensBefore, endIn, positionIn, drawingOf}
 use Rattle.format.proofs.Strings.{family-same}
 use Rattle.format.specs.Fits.{Fits}
-use Rattle.roundtrip.proofs.Crossing.{mate-own, mate-else, by-family, crossing-below, crossing-family, crossing-closing, crossing-closes, mate-crossing}
+use Rattle.words.proofs.Crossing.{mate-own, mate-else, by-family, crossing-below, crossing-family, crossing-closing, crossing-closes, mate-crossing}
 use Rattle.roundtrip.proofs.Openings.{openings-all, openings-cell}
 use Rattle.roundtrip.proofs.Ends.{end-in-opens, end-in-closes, end-in-crossing, end-in-below, end-in-permutes, position-in, position-in-below, position-in-end}
 

@@ -26,7 +26,7 @@ use Rattle.words.specs.Word.{Word, seen, crossing}
 use Rattle.drawing.specs.Drawing.{border, other}
 use Rattle.drawing.proofs.Ends.{other-even, other-odd, other-moves}
 use Rattle.format.specs.Pack.{opensBefore, endIn, positionIn}
-use Rattle.roundtrip.proofs.Crossing.{crossing-below, crossing-involutive, crossing-closing, crossing-opens, crossing-closes}
+use Rattle.words.proofs.Crossing.{crossing-below, crossing-involutive, crossing-closing, crossing-opens, crossing-closes}
 use Rattle.roundtrip.proofs.Openings.{openings-all}
 
 abbrev pub opening : Word → ℕ → ℕ

@@ -1,5 +1,4 @@
 -- From a word to its drawing and back: the laws.
-pub mod Crossing
 pub mod Openings
 pub mod Ends
 pub mod Drawing

@@ -31,7 +31,7 @@ use Rattle.tours.specs.Tour.{MeetsAll}
 use Rattle.format.specs.Bytes.{familyBit}
 use Rattle.format.specs.Pack.{endIn, positionIn, drawingOf}
 use Rattle.format.specs.Fits.{Fits}
-use Rattle.roundtrip.proofs.Crossing.{crossing-nested}
+use Rattle.words.proofs.Crossing.{crossing-nested}
 use Rattle.roundtrip.proofs.Openings.{opens-seen}
 use Rattle.roundtrip.proofs.Ends.{end-in-closes, border-pairs, position-in-below, position-in-end}
 use Rattle.roundtrip.proofs.Drawing.{drawing-half, drawing-ends, drawing-borders, drawing-marked, drawing-tour, drawing-meets, drawing-permutes, drawing-cells}

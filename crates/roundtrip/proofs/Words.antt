@@ -25,7 +25,7 @@ use Rattle.format.specs.Pack.{endIn, drawingOf, wordOf, packedBytes}
 use Rattle.format.proofs.Strings.{family-same, family-back}
 use Rattle.format.proofs.Encode.{map-bytes-same}
 use Rattle.format.specs.Fits.{Fits}
-use Rattle.roundtrip.proofs.Crossing.{crossing-below, crossing-closes, crossing-earlier}
+use Rattle.words.proofs.Crossing.{crossing-below, crossing-closes, crossing-earlier}
 use Rattle.roundtrip.proofs.Ends.{end-in-crossing, border-pairs}
 use Rattle.roundtrip.proofs.Drawing.{drawing-ends, drawing-marked, drawing-tour, drawing-borders, drawing-points}
 

@@ -15,12 +15,11 @@ use lib.Dec.{leb}
 use lib.ListN.{length}
 use Rattle.count.specs.Below.{pick}
 use Rattle.count.proofs.Logic.{both, not-both, pick-yes, pick-no}
-use Rattle.drawing.specs.Laid.{laid}
 use Rattle.drawing.specs.Session.{Answer, answer, refused, Outcome}
 use Rattle.format.specs.Open.{openRefusal, afterRefusal, opened}
 use Rattle.format.specs.Calls.{mapSession}
 use Rattle.running.specs.Codes.{callsOf, areCalls, noCall}
-use Rattle.running.specs.Runs.{statusesOf, valuesOf, runOf, ranOf, placeLeft, statusesAfter, answersAfter}
+use Rattle.running.specs.Runs.{Leaves, runOf, ranOf, placeLeft, statusesAfter, answersAfter}
 
 -- ---- the checks 2 and `noCall`
 module _ (ks : List ℕ) (k l : ℕ) (o : Outcome) where
@@ -62,11 +61,11 @@ module _ (a : Answer Outcome) (st an : List ℕ) where
   given-declined : (j : ℕ) → a ≡ refused j → (refused j ≡ placeLeft a) × ((st ≡ statusesAfter a st) × (an ≡ answersAfter a an))
   given-declined j e = (ap placeLeft (sym e), (ap (λ x. statusesAfter x st) (sym e), ap (λ x. answersAfter x an) (sym e)))
 
-  given-run : (o : Outcome) (p : ℕ) (st′ an′ : List ℕ) → a ≡ answer o → p ≡ o .place → st′ ≡ laid (statusesOf o) st → an′ ≡ laid (valuesOf o) an
+  given-run : (o : Outcome) (p : ℕ) (st′ an′ : List ℕ) → a ≡ answer o → Leaves o p st an st′ an′
       → (answer p ≡ placeLeft a) × ((st′ ≡ statusesAfter a st) × (an′ ≡ answersAfter a an))
-  given-run o p st′ an′ e hp hs ha = (
-    ap answer hp ∙ ap placeLeft (sym e),
-    (hs ∙ ap (λ x. statusesAfter x st) (sym e), ha ∙ ap (λ x. answersAfter x an) (sym e)),
+  given-run o p st′ an′ e L = (
+    ap answer (L .place) ∙ ap placeLeft (sym e),
+    (L .statuses ∙ ap (λ x. statusesAfter x st) (sym e), L .answers ∙ ap (λ x. answersAfter x an) (sym e)),
   )
 
 module _ (s : List ℕ) (first : ℕ) (ks st an : List ℕ) (j : ℕ) (e : j ≡ openRefusal s) where
@@ -95,9 +94,8 @@ module _ (s : List ℕ) (first : ℕ) (ks st an : List ℕ) (j : ℕ) (e : j ≡
           given-declined ran st an 255
           (opens ∙ run-no-call ks (length st) (length an) (mapSession s first (callsOf ks)) g h (sym y ∙ not-true t f))
 
-      pub session-answers : (p : ℕ) (st′ an′ : List ℕ) → not t ≡ false → p ≡ mapSession s first (callsOf ks) .place
-          → st′ ≡ laid (statusesOf (mapSession s first (callsOf ks))) st → an′ ≡ laid (valuesOf (mapSession s first (callsOf ks))) an
+      pub session-answers : (p : ℕ) (st′ an′ : List ℕ) → not t ≡ false → Leaves (mapSession s first (callsOf ks)) p st an st′ an′
           → (answer p ≡ placeLeft ran) × ((st′ ≡ statusesAfter ran st) × (an′ ≡ answersAfter ran an))
-      session-answers p st′ an′ f hp hs ha =
+      session-answers p st′ an′ f L =
           given-run ran st an (mapSession s first (callsOf ks)) p st′ an′
-          (opens ∙ run-answers ks (length st) (length an) (mapSession s first (callsOf ks)) g h (sym y ∙ not-false t f)) hp hs ha
+          (opens ∙ run-answers ks (length st) (length an) (mapSession s first (callsOf ks)) g h (sym y ∙ not-false t f)) L

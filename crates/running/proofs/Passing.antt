@@ -5,7 +5,7 @@
 -- from s f p cs l i == l with f of each answer of the session cs from place p laid from entry i on
 -- Running s first ks st₀ an₀ st an p i == the first i entries are written, p is the place after i calls, and the session of the calls
 --                that are left, from p, makes up the whole one
--- running-start, running-more, running-place, running-statuses, running-answers == the loop
+-- running-start, running-more, running-end == the loop
 -- Assumes nothing.
 use mathlib.Core.Path.{_≡_, refl, sym, ap, _∙_}
 use mathlib.Core.List.{List, [], _∷_, _++_, map}
@@ -18,9 +18,9 @@ use Rattle.drawing.specs.Laid.{laid}
 use Rattle.drawing.specs.Session.{Answer, numberOf, Call, placeAfter, session, valueOf}
 use Rattle.format.specs.Calls.{mapAnswer, mapSession}
 use Rattle.running.specs.Codes.{callOf, callsOf}
-use Rattle.running.specs.Runs.{statusesOf, valuesOf}
+use Rattle.running.specs.Runs.{statusesOf, valuesOf, Room, Leaves}
 use Rattle.running.specs.Told.{Gives}
-use Rattle.running.specs.declared.runs.Told.{Told}
+use Rattle.running.specs.declared.calls.Told.{Told}
 
 laid-here : (x : ℕ) (xs st : List ℕ) (i : ℕ) → i < length st
     → take (i + 1) (set st i x) ++ laid xs (drop (i + 1) (set st i x)) ≡ take i st ++ laid (x ∷ xs) (drop i st)
@@ -65,20 +65,18 @@ place-end s p = refl
 module _ (s : List ℕ) (first : ℕ) (ks st₀ an₀ : List ℕ) where
   pub record Running (st an : List ℕ) (p i : ℕ) : Type 0 where
     pub within : i ≤ length ks
-    pub statuses-room : length ks ≤ length st₀
-    pub answers-room : length ks ≤ length an₀
+    pub room : Room ks st₀ an₀
     pub statuses-long : length st ≡ length st₀
     pub answers-long : length an ≡ length an₀
     pub place : mapSession s p (callsOf (drop i ks)) .place ≡ mapSession s first (callsOf ks) .place
     pub statuses : from s numberOf p (callsOf (drop i ks)) st i ≡ laid (statusesOf (mapSession s first (callsOf ks))) st₀
     pub answers : from s valueOf p (callsOf (drop i ks)) an i ≡ laid (valuesOf (mapSession s first (callsOf ks))) an₀
 
-  pub running-start : length ks ≤ length st₀ → length ks ≤ length an₀ → Running st₀ an₀ first 0
-  running-start l m =
+  pub running-start : Room ks st₀ an₀ → Running st₀ an₀ first 0
+  running-start R =
       record {
         within = omega arith;
-        statuses-room = l;
-        answers-room = m;
+        room = R;
         statuses-long = refl;
         answers-long = refl;
         place = refl;
@@ -95,29 +93,25 @@ module _ (s : List ℕ) (first : ℕ) (ks st₀ an₀ : List ℕ) where
         let h : callsOf (drop i ks) ≡ c ∷ cs = codes-here ks i l in
         record {
           within = omega arith;
-          statuses-room = R .statuses-room;
-          answers-room = R .answers-room;
+          room = R .room;
           statuses-long = length-set st i (t .status) ∙ R .statuses-long;
           answers-long = length-set an i (t .value) ∙ R .answers-long;
           place = place-more s p c cs (t .place) (T .place) ∙ ap (λ x. mapSession s p x .place) (sym h) ∙ R .place;
           statuses =
-              from-more s numberOf p c cs st i (t .status) (t .place) (omega (arith, R .statuses-room, R .statuses-long)) (T .status) (T .place)
+              from-more s numberOf p c cs st i (t .status) (t .place) (omega (arith, R .room .statuses, R .statuses-long)) (T .status) (T .place)
               ∙ ap (λ x. from s numberOf p x st i) (sym h) ∙ R .statuses;
           answers =
-              from-more s valueOf p c cs an i (t .value) (t .place) (omega (arith, R .answers-room, R .answers-long)) (T .value) (T .place)
+              from-more s valueOf p c cs an i (t .value) (t .place) (omega (arith, R .room .answers, R .answers-long)) (T .value) (T .place)
               ∙ ap (λ x. from s valueOf p x an i) (sym h) ∙ R .answers;
         }
 
     none-left : length ks ≤ i → callsOf (drop i ks) ≡ []
     none-left l = ap callsOf (drop-of-length-le ks l)
 
-    pub running-place : length ks ≤ i → p ≡ mapSession s first (callsOf ks) .place
-    running-place l = sym (place-end s p) ∙ ap (λ x. mapSession s p x .place) (sym (none-left l)) ∙ R .place
-
-    pub running-statuses : length ks ≤ i → st ≡ laid (statusesOf (mapSession s first (callsOf ks))) st₀
-    running-statuses l = sym (from-end s numberOf p st i) ∙ ap (λ x. from s numberOf p x st i) (sym (none-left l)) ∙ R .statuses
-
-    pub running-answers : length ks ≤ i → an ≡ laid (valuesOf (mapSession s first (callsOf ks))) an₀
-    running-answers l = sym (from-end s valueOf p an i) ∙ ap (λ x. from s valueOf p x an i) (sym (none-left l)) ∙ R .answers
-
-pub ruleset running-end = (running-place, running-statuses, running-answers)
+    pub running-end : length ks ≤ i → Leaves (mapSession s first (callsOf ks)) p st₀ an₀ st an
+    running-end l =
+        record {
+          place = sym (place-end s p) ∙ ap (λ x. mapSession s p x .place) (sym (none-left l)) ∙ R .place;
+          statuses = sym (from-end s numberOf p st i) ∙ ap (λ x. from s numberOf p x st i) (sym (none-left l)) ∙ R .statuses;
+          answers = sym (from-end s valueOf p an i) ∙ ap (λ x. from s valueOf p x an i) (sym (none-left l)) ∙ R .answers;
+        }

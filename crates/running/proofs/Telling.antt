@@ -1,61 +1,148 @@
--- What one call of a session gives, from the answer of the call.
+-- What one call of a session gives, on bytes that open.
 --
--- moved-alike  == every move leaves the place that a crossing with the same answer leaves
--- tells-cross, tells-turn, tells-turn-back, tells-along, tells-point, tells-area == what `tell` returns for each code
+-- area-code, move-code, stay-code == which call a code is of, and whether it is a move
+-- call-inside, call-outside == a call at a place answers what the word does, and at another number 13
+-- place-at     == a place has a position
+-- tells-no-place, tells-past, tells-inside == what `tell` returns: at 0, past the last place, and at a place
+-- after-move, after-stay == the place after a call
+-- value-fits   == what a call answers fits 16 bits
+-- value-cross, value-turn, value-turn-back, value-along, value-point, value-area == what `value_at` returns for each code
 -- Assumes nothing.
 use mathlib.Core.Path.{_≡_, refl, sym, ap, _∙_}
-use mathlib.Core.Bool.{true}
+use mathlib.Core.Logic.{inl, inr}
+use mathlib.Core.Bool.{true, false, _&&_}
 use mathlib.Core.List.{List}
-use Prim.Native.Nat.{ℕ, _<_}
-use borrow.Author.Tests.{ne-eqb}
-use Rattle.count.proofs.Logic.{pick-yes}
-use Rattle.drawing.specs.Session.{Answer, answer, refused, Call, isMove, placeAfter, valueOf}
-use Rattle.format.specs.Calls.{mapAnswer, crossOf, turnOf, turnBackOf, alongOf, pointOf, areaOf}
+use Prim.Native.Nat.{ℕ, zero, suc, pred, _+_, _-_, _<_, _≤_}
+use native.Mathlib.Omega.{arith}
+use lib.Dec.{ltb, leb}
+use borrow.Author.Tests.{lt-ltb, le-leb, ltb-true, leb-true, ne-eqb}
+use Rattle.count.specs.Below.{pick}
+use Rattle.count.proofs.Logic.{same-or-not, both, not-both, pick-yes, pick-no}
+use Rattle.words.specs.Brackets.{step, number}
+use Rattle.words.specs.declared.family.Family.the-variants.{Round as round, Square as square}
+use Rattle.words.specs.Word.{seen, crossing}
+use Rattle.drawing.specs.Session.{Answer, answer, refused, Call, isMove, placeAfter, numberOf, valueOf}
+use Rattle.format.specs.Bytes.{sizeIn, bitsA, wordIn}
+use Rattle.format.specs.Open.{openRefusal, afterRefusal, opened}
+use Rattle.format.specs.Calls.{moveIn, atPlace, mapAnswer}
+use Rattle.format.proofs.Small.{move-small}
+use Rattle.walking.specs.Positions.{Position}
+use Rattle.walking.proofs.Decoded.{places-most}
 use Rattle.running.specs.Codes.{callOf}
-use Rattle.running.specs.Told.{Gives}
-use Rattle.running.specs.declared.runs.Told.{Told}
+use Rattle.running.specs.Lists.{Surveyed}
+use Rattle.running.specs.Told.{Finds, Gives}
+use Rattle.running.specs.declared.calls.Told.{Told}
 
--- ---- from the answer of a call to what `tell` returns
-moved-alike : (c : Call) (a : Answer ℕ) (p : ℕ) → isMove c ≡ true → placeAfter Call.cross a p ≡ placeAfter c a p
-moved-alike c (answer q) p e = sym (pick-yes (isMove c) q p e)
-moved-alike c (refused k) p e = refl
+-- ---- codes
+area-code : (k : ℕ) → (k ≡ 0 → ⊥) → (k ≡ 1 → ⊥) → (k ≡ 2 → ⊥) → (k ≡ 3 → ⊥) → (k ≡ 4 → ⊥) → callOf k ≡ Call.area
+unfolding callOf
+area-code k n0 n1 n2 n3 n4 = simp (ne-eqb k 0 n0, ne-eqb k 1 n1, ne-eqb k 2 n2, ne-eqb k 3 n3, ne-eqb k 4 n4)
 
-module _ (s : List ℕ) (code p : ℕ) (a : Answer ℕ) where
-  module _ (t : Told) where
-    -- the call c has this code
-    tells-call : (c : Call) → callOf code ≡ c → a ≡ mapAnswer s c p → Gives c a p t → Gives (callOf code) (mapAnswer s (callOf code) p) p t
-    tells-call c h e T = rw (h, ← e) T
+-- the codes below 4 are those of the moves
+move-code : (k : ℕ) → k < 4 → isMove (callOf k) ≡ true
+unfolding callOf
+move-code zero l = refl
+move-code (suc zero) l = refl
+move-code (suc (suc zero)) l = refl
+move-code (suc (suc (suc zero))) l = refl
+move-code (suc (suc (suc (suc k)))) l = absurd (omega arith)
 
-    tells-move : (c : Call) → callOf code ≡ c → isMove c ≡ true → a ≡ mapAnswer s c p → Gives Call.cross a p t
-        → Gives (callOf code) (mapAnswer s (callOf code) p) p t
-    tells-move c h m e T =
-        tells-call c h e (record { status = T .status; value = T .value; place = T .place ∙ moved-alike c a p m })
+stay-code : (k : ℕ) → 4 ≤ k → isMove (callOf k) ≡ false
+unfolding callOf
+stay-code k l =
+    elim (same-or-not k 4) [
+      | inl e ↦ ap (λ x. isMove (callOf x)) e
+      | inr n ↦ ap isMove (area-code k (λ e. omega arith) (λ e. omega arith) (λ e. omega arith) (λ e. omega arith) n)
+    ]
 
-    pub tells-cross : code ≡ 0 → a ≡ crossOf s p → Gives Call.cross a p t → Gives (callOf code) (mapAnswer s (callOf code) p) p t
-    unfolding crossOf callOf
-    tells-cross h e T = tells-call Call.cross (ap callOf h) e T
+-- ---- a call at a number
+module _ (s : List ℕ) (o : openRefusal s ≡ 0) (c : Call) (i : ℕ) where
+  call-opens : mapAnswer s c i ≡ pick (ltb 0 i && leb i (bitsA (sizeIn s))) (answer (moveIn (wordIn s) c (pred i))) (refused 13)
+  unfolding mapAnswer opened atPlace wordIn
+  call-opens = ap (λ k. afterRefusal k (pick (ltb 0 i && leb i (bitsA (sizeIn s))) (answer (moveIn (wordIn s) c (pred i))) (refused 13))) o
 
-    pub tells-turn : code ≡ 1 → a ≡ turnOf s p → Gives Call.cross a p t → Gives (callOf code) (mapAnswer s (callOf code) p) p t
-    unfolding turnOf callOf
-    tells-turn h e T = tells-move Call.turn (ap callOf h) refl e T
+  call-inside : 0 < i → i ≤ bitsA (sizeIn s) → mapAnswer s c i ≡ answer (moveIn (wordIn s) c (i - 1))
+  call-inside l h =
+      let e : pred i ≡ i - 1 = omega arith in
+      call-opens
+      ∙ pick-yes (ltb 0 i && leb i (bitsA (sizeIn s))) (answer (moveIn (wordIn s) c (pred i))) (refused 13)
+      (both (ltb 0 i) (leb i (bitsA (sizeIn s))) (lt-ltb 0 i l) (le-leb i (bitsA (sizeIn s)) h))
+      ∙ ap (λ p. answer (moveIn (wordIn s) c p)) e
 
-    pub tells-turn-back : code ≡ 2 → a ≡ turnBackOf s p → Gives Call.cross a p t → Gives (callOf code) (mapAnswer s (callOf code) p) p t
-    unfolding turnBackOf callOf
-    tells-turn-back h e T = tells-move Call.turn-back (ap callOf h) refl e T
+  call-outside : (0 < i → i ≤ bitsA (sizeIn s) → ⊥) → mapAnswer s c i ≡ refused 13
+  call-outside n =
+      call-opens
+      ∙ pick-no (ltb 0 i && leb i (bitsA (sizeIn s))) (answer (moveIn (wordIn s) c (pred i))) (refused 13)
+      (not-both (ltb 0 i) (leb i (bitsA (sizeIn s))) (λ g h. n (ltb-true 0 i g) (leb-true i (bitsA (sizeIn s)) h)))
 
-    pub tells-along : code ≡ 3 → a ≡ alongOf s p → Gives Call.cross a p t → Gives (callOf code) (mapAnswer s (callOf code) p) p t
-    unfolding alongOf callOf
-    tells-along h e T = tells-move Call.along (ap callOf h) refl e T
+-- ---- what `tell` returns
+pub place-at : (s : List ℕ) (i n : ℕ) → openRefusal s ≡ 0 → (i ≡ 0 → ⊥) → n ≡ bitsA (sizeIn s) → i ≤ n → Position s (i - 1)
+place-at s i n o m hn l =
+    let k : 0 < i = omega arith in
+    record { opens = o; below = omega arith; few = omega (arith, places-most s o) }
 
-    pub tells-point : code ≡ 4 → a ≡ pointOf s p → Gives Call.point a p t → Gives (callOf code) (mapAnswer s (callOf code) p) p t
-    unfolding pointOf callOf
-    tells-point h e T = tells-call Call.point (ap callOf h) e T
+refused-gives : (c : Call) (a : Answer ℕ) (i : ℕ) (t : Told) → a ≡ refused 13 → t .status ≡ 13 → t .value ≡ 0 → t .place ≡ i → Gives c a i t
+unfolding numberOf valueOf
+refused-gives c a i t e hs hv hp = rw e (record { status = hs; value = hv; place = hp })
 
-    area-code : (code ≡ 0 → ⊥) → (code ≡ 1 → ⊥) → (code ≡ 2 → ⊥) → (code ≡ 3 → ⊥) → (code ≡ 4 → ⊥) → callOf code ≡ Call.area
-    unfolding callOf
-    area-code n0 n1 n2 n3 n4 = simp (ne-eqb code 0 n0, ne-eqb code 1 n1, ne-eqb code 2 n2, ne-eqb code 3 n3, ne-eqb code 4 n4)
+module _ (s ms rs ps : List ℕ) (S : Surveyed s ms rs ps) (c : Call) (i : ℕ) where
+  module _ (t : Told) (hs : t .status ≡ 13) (hv : t .value ≡ 0) (hp : t .place ≡ i) where
+    pub tells-no-place : i ≡ 0 → Gives c (mapAnswer s c i) i t
+    tells-no-place e = refused-gives c (mapAnswer s c i) i t (call-outside s (S .opens) c i (λ l h. omega arith)) hs hv hp
 
-    pub tells-area : (code ≡ 0 → ⊥) → (code ≡ 1 → ⊥) → (code ≡ 2 → ⊥) → (code ≡ 3 → ⊥) → (code ≡ 4 → ⊥) → a ≡ areaOf s p → Gives Call.area a p t
-        → Gives (callOf code) (mapAnswer s (callOf code) p) p t
-    unfolding areaOf
-    tells-area n0 n1 n2 n3 n4 e T = tells-call Call.area (area-code n0 n1 n2 n3 n4) e T
+    pub tells-past : (n : ℕ) → n ≡ bitsA (sizeIn s) → n < i → Gives c (mapAnswer s c i) i t
+    tells-past n hn l = refused-gives c (mapAnswer s c i) i t (call-outside s (S .opens) c i (λ g h. omega arith)) hs hv hp
+
+  pub tells-inside : (n v q : ℕ) → (i ≡ 0 → ⊥) → n ≡ bitsA (sizeIn s) → i ≤ n → v ≡ moveIn (wordIn s) c (i - 1) → q ≡ placeAfter c (answer v) i
+      → Gives c (mapAnswer s c i) i (record { status = 0; value = v; place = q })
+  unfolding numberOf valueOf
+  tells-inside n v q m hn l hv hq =
+      let e : mapAnswer s c i ≡ answer v = call-inside s (S .opens) c i (omega arith) (omega arith) ∙ ap answer (sym hv) in
+      rw e (record { status = refl; value = refl; place = hq })
+
+-- ---- the place after a call
+module _ (code v i : ℕ) where
+  pub after-move : code < 4 → v ≡ placeAfter (callOf code) (answer v) i
+  after-move l = sym (pick-yes (isMove (callOf code)) v i (move-code code l))
+
+  pub after-stay : 4 ≤ code → i ≡ placeAfter (callOf code) (answer v) i
+  after-stay l = sym (pick-no (isMove (callOf code)) v i (stay-code code l))
+
+-- ---- what `value_at` returns
+value-fits : (s : List ℕ) (c : Call) (p r : ℕ) → Position s p → r ≡ moveIn (wordIn s) c p → r < 65536
+unfolding valueOf
+value-fits s c p r P e =
+    let m : p + 1 - 1 ≡ p = omega arith in
+    let h : mapAnswer s c (p + 1) ≡ answer r
+    = call-inside s (P .opens) c (p + 1) (omega arith) (omega (arith, P .below)) ∙ ap (λ q. answer (moveIn (wordIn s) c q)) m ∙ ap answer (sym e) in
+    rw h at (move-small s c (p + 1))
+
+module _ (s : List ℕ) (code p : ℕ) (P : Position s p) where
+  value-of : (c : Call) (r : ℕ) → callOf code ≡ c → r ≡ moveIn (wordIn s) c p → Finds (wordIn s) (callOf code) p r
+  value-of c r h e = record { is = e ∙ ap (λ x. moveIn (wordIn s) x p) (sym h); fits = value-fits s c p r P e }
+
+  pub value-cross : (r : ℕ) → code ≡ 0 → r ≡ crossing (wordIn s) p → Finds (wordIn s) (callOf code) p (r + 1)
+  unfolding moveIn callOf
+  value-cross r h e = value-of Call.cross (r + 1) (ap callOf h) (omega arith)
+
+  pub value-turn : (r : ℕ) → code ≡ 1 → r ≡ moveIn (wordIn s) Call.turn p → Finds (wordIn s) (callOf code) p r
+  unfolding callOf
+  value-turn r h e = value-of Call.turn r (ap callOf h) e
+
+  pub value-turn-back : (r : ℕ) → code ≡ 2 → r ≡ moveIn (wordIn s) Call.turn-back p → Finds (wordIn s) (callOf code) p r
+  unfolding callOf
+  value-turn-back r h e = value-of Call.turn-back r (ap callOf h) e
+
+  pub value-along : (r : ℕ) → code ≡ 3 → r ≡ step (seen square (wordIn s)) (bitsA (sizeIn s)) p
+      → Finds (wordIn s) (callOf code) p (r + 1)
+  unfolding moveIn wordIn callOf
+  value-along r h e = value-of Call.along (r + 1) (ap callOf h) (omega arith)
+
+  pub value-point : (r : ℕ) → code ≡ 4 → r ≡ number (seen round (wordIn s)) p → Finds (wordIn s) (callOf code) p r
+  unfolding moveIn callOf
+  value-point r h e = value-of Call.point r (ap callOf h) e
+
+  pub value-area : (r : ℕ) → (code ≡ 0 → ⊥) → (code ≡ 1 → ⊥) → (code ≡ 2 → ⊥) → (code ≡ 3 → ⊥) → (code ≡ 4 → ⊥)
+      → r ≡ number (seen square (wordIn s)) p → Finds (wordIn s) (callOf code) p r
+  unfolding moveIn
+  value-area r n0 n1 n2 n3 n4 e = value-of Call.area r (area-code code n0 n1 n2 n3 n4) e

@@ -2,6 +2,8 @@
 --
 -- statusesOf o         == the status of each call: 0, or the number of its refusal
 -- valuesOf o           == the answer of each call
+-- Room ks st an        == both lists have an entry for each call
+-- Leaves o p st an st′ an′ == p is the place that the outcome o leaves, and st′ and an′ are the lists st and an with its statuses and answers
 -- runOf ks k l o       == the outcome o of a session with the codes ks, after the checks 2 and `noCall`, k statuses and l answers being lent
 -- ranOf s i ks k l     == a session on the map s from the first number i: 8 to 12, those checks, and the outcome
 -- placeLeft a          == the place left at the end, or the refusal
@@ -9,9 +11,10 @@
 -- answersAfter a old   == the list of answers, the same way
 -- ranMeans r           == what the case r stands for
 -- Assumes nothing.
+use mathlib.Core.Path.{_≡_}
 use mathlib.Core.Bool.{_&&_}
 use mathlib.Core.List.{List, map}
-use Prim.Native.Nat.{ℕ}
+use Prim.Native.Nat.{ℕ, _≤_}
 use lib.Dec.{leb}
 use lib.ListN.{length}
 use Rattle.count.specs.Below.{pick}
@@ -28,6 +31,15 @@ statusesOf o = map numberOf (o .answers)
 
 abbrev pub valuesOf : Outcome → List ℕ
 valuesOf o = map valueOf (o .answers)
+
+pub record Room (ks st an : List ℕ) : Type 0 where
+  pub statuses : length ks ≤ length st
+  pub answers : length ks ≤ length an
+
+pub record Leaves (o : Outcome) (p : ℕ) (st an st′ an′ : List ℕ) : Type 0 where
+  pub place : p ≡ o .place
+  pub statuses : st′ ≡ laid (statusesOf o) st
+  pub answers : an′ ≡ laid (valuesOf o) an
 
 -- 2 is document 01's number for lent memory that is too short
 unfoldable pub runOf : List ℕ → ℕ → ℕ → Outcome → Answer Outcome

@@ -10,10 +10,15 @@
 // open, by 2, where a lent list is shorter than the list of calls, and by NO_CALL. Then nothing is written. No
 // function asks anything of its caller.
 //
+// The bytes are checked once, before the first call. Where there are many calls, one pass over the map then finds
+// the other end, the area and the point of every place, in lists on the stack (24 KiB), and each call looks up in
+// them; few calls walk through the bytes.
+//
 // The source is document 01, "The drawing's book": "A session is a first number and a list of calls"; "on the
 // packed map too the place passes from call to call as in the book". specs/Codes.antt has the codes,
 // specs/Runs.antt what `session` answers and what the lists hold after it; a session itself is `mapSession` of
 // the crate `format`.
+mod calls;
 mod codes;
 mod runs;
 

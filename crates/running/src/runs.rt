@@ -1,25 +1,22 @@
-// A session: the checks, then one call after the other, with the place passed on.
-use crate::codes::ALONG;
-use crate::codes::CROSS;
+// A session: the checks, once, then one call after the other, with the place passed on.
+use crate::calls::tell;
 use crate::codes::NO_CALL;
-use crate::codes::POINT;
-use crate::codes::TURN;
-use crate::codes::TURN_BACK;
 use crate::codes::are_calls;
-use opening::AreaAnswer;
-use opening::Place;
-use opening::PlaceAnswer;
-use opening::PointAnswer;
+use layout::bits_a;
+use surveying::survey;
 ghost use mathlib.Core.Path.{_≡_};
-ghost use Prim.Native.Nat.{_<_, _≤_};
 ghost use lib.ListN.{length};
-ghost use Rattle.drawing.specs.Session.{Call, valueOf};
-ghost use Rattle.drawing.specs.Laid.{laid};
-ghost use Rattle.format.specs.Calls.{mapAnswer, mapSession};
-ghost use Rattle.opening.specs.Answers.{placeMeans, pointMeans, areaMeans};
-ghost use Rattle.running.specs.Codes.{callOf, callsOf};
-ghost use Rattle.running.specs.Runs.{statusesOf, valuesOf, ranOf, ranMeans, placeLeft, statusesAfter, answersAfter};
-ghost use Rattle.running.specs.Told.{Gives};
+ghost use Rattle.format.specs.Calls.{mapSession};
+ghost use Rattle.format.specs.Open.{openRefusal};
+ghost use Rattle.running.specs.Codes.{callsOf};
+ghost use Rattle.running.specs.Lists.{Surveyed};
+ghost use Rattle.running.specs.Runs.{Room, Leaves, ranOf, ranMeans, placeLeft, statusesAfter, answersAfter};
+
+// A list of calls is short that has fewer than FEW, and one more for so many places: a call that walks through the bytes takes
+// as long as the pass takes for so many places, and FEW of them as long as making the lists.
+const FEW: usize = 16;
+
+const PLACES_A_CALL: usize = 24;
 
 // The place left at the end, or the number of the check that declines.
 pub enum Ran {
@@ -57,103 +54,117 @@ pub fn session(
     if !are_calls(calls) {
         return Ran::Declined(NO_CALL);
     }
-    Ran::At(run(map, first, calls, statuses, answers))
+    Ran::At(run_open(map, first, calls, statuses, answers))
+}
+
+// The calls on bytes that open: few walk through the bytes, many look up in lists of the whole map.
+fn run_open(
+    map: &[u8],
+    first: usize,
+    calls: &[u8],
+    statuses: &mut [u8],
+    answers: &mut [u16],
+) -> usize
+    requires { ⌜ (openRefusal (now map) ≡ 0) × Room (now calls) (now statuses) (now answers) ⌝ }
+    ensures { λ r. ⌜ Leaves (mapSession (now (map .entry)) first (callsOf (now (calls .entry))))
+        r (now (statuses .entry)) (now (answers .entry)) (now (statuses .exit)) (now (answers .exit)) ⌝ }
+{
+    if is_short(map, calls) {
+        return run_walking(map, first, calls, statuses, answers);
+    }
+    run_surveyed(map, first, calls, statuses, answers)
+}
+
+// Whether a list of calls is short. The answers are the same either way.
+fn is_short(map: &[u8], calls: &[u8]) -> bool {
+    calls.len() < FEW + bits_a(map) / PLACES_A_CALL
+}
+
+// Few calls: the lists are empty.
+fn run_walking(
+    map: &[u8],
+    first: usize,
+    calls: &[u8],
+    statuses: &mut [u8],
+    answers: &mut [u16],
+) -> usize
+    requires { ⌜ (openRefusal (now map) ≡ 0) × Room (now calls) (now statuses) (now answers) ⌝ }
+    ensures { λ r. ⌜ Leaves (mapSession (now (map .entry)) first (callsOf (now (calls .entry))))
+        r (now (statuses .entry)) (now (answers .entry)) (now (statuses .exit)) (now (answers .exit)) ⌝ }
+{
+    let none = [0u16; 0];
+    run(map, &none, &none, &none, first, calls, statuses, answers)
+}
+
+// Many calls: the lists have room for a map of every size.
+fn run_surveyed(
+    map: &[u8],
+    first: usize,
+    calls: &[u8],
+    statuses: &mut [u8],
+    answers: &mut [u16],
+) -> usize
+    requires { ⌜ (openRefusal (now map) ≡ 0) × Room (now calls) (now statuses) (now answers) ⌝ }
+    ensures { λ r. ⌜ Leaves (mapSession (now (map .entry)) first (callsOf (now (calls .entry))))
+        r (now (statuses .entry)) (now (answers .entry)) (now (statuses .exit)) (now (answers .exit)) ⌝ }
+{
+    let mut mates = [0u16; 4096];
+    let mut areas = [0u16; 4096];
+    let mut points = [0u16; 4096];
+    run_lent(
+        map,
+        &mut mates,
+        &mut areas,
+        &mut points,
+        first,
+        calls,
+        statuses,
+        answers,
+    )
+}
+
+// One pass fills the lists, whatever they hold; then the calls.
+fn run_lent(
+    map: &[u8],
+    mates: &mut [u16; 4096],
+    areas: &mut [u16; 4096],
+    points: &mut [u16; 4096],
+    first: usize,
+    calls: &[u8],
+    statuses: &mut [u8],
+    answers: &mut [u16],
+) -> usize
+    requires { ⌜ (openRefusal (now map) ≡ 0) × Room (now calls) (now statuses) (now answers) ⌝ }
+    ensures { λ r. ⌜ Leaves (mapSession (now (map .entry)) first (callsOf (now (calls .entry))))
+        r (now (statuses .entry)) (now (answers .entry)) (now (statuses .exit)) (now (answers .exit)) ⌝ }
+{
+    survey(map, mates, areas, points);
+    run(map, mates, areas, points, first, calls, statuses, answers)
 }
 
 // The calls in order: "It holds one number, the place".
-fn run(map: &[u8], first: usize, calls: &[u8], statuses: &mut [u8], answers: &mut [u16]) -> usize
-    requires { ⌜ (length (now calls) ≤ length (now statuses)) × (length (now calls) ≤ length (now answers)) ⌝ }
-    ensures { λ r. ⌜ r ≡ mapSession (now (map .entry)) first (callsOf (now (calls .entry))) .place ⌝ }
-    ensures { λ _. ⌜ now (statuses .exit) ≡ laid
-        (statusesOf (mapSession (now (map .entry)) first (callsOf (now (calls .entry))))) (now (statuses .entry)) ⌝ }
-    ensures { λ _. ⌜ now (answers .exit) ≡ laid
-        (valuesOf (mapSession (now (map .entry)) first (callsOf (now (calls .entry))))) (now (answers .entry)) ⌝ }
+fn run(
+    map: &[u8],
+    mates: &[u16],
+    areas: &[u16],
+    points: &[u16],
+    first: usize,
+    calls: &[u8],
+    statuses: &mut [u8],
+    answers: &mut [u16],
+) -> usize
+    requires { ⌜ Surveyed (now map) (now mates) (now areas) (now points) × Room (now calls) (now statuses) (now answers) ⌝ }
+    ensures { λ r. ⌜ Leaves (mapSession (now (map .entry)) first (callsOf (now (calls .entry))))
+        r (now (statuses .entry)) (now (answers .entry)) (now (statuses .exit)) (now (answers .exit)) ⌝ }
 {
     let mut place = first;
     let mut i = 0;
     while i < calls.len() {
-        let told = tell(map, calls[i], place);
+        let told = tell(map, mates, areas, points, calls[i], place);
         statuses[i] = told.status;
         answers[i] = told.value;
         place = told.place;
         i += 1;
     }
     place
-}
-
-// What one call gives: its status, its answer, and the place after it.
-struct Told {
-    status: u8,
-    value: u16,
-    place: usize,
-}
-
-// One call at a place.
-fn tell(map: &[u8], code: u8, place: usize) -> Told
-    ensures { λ r. ⌜ Gives (callOf code) (mapAnswer (now (map .entry)) (callOf code) place) place r ⌝ }
-{
-    match code {
-        CROSS => moved(map::cross(map, Place(place)), place),
-        TURN => moved(map::turn(map, Place(place)), place),
-        TURN_BACK => moved(map::turn_back(map, Place(place)), place),
-        ALONG => moved(map::along(map, Place(place)), place),
-        POINT => told_point(map::point_at(map, Place(place)), place),
-        _ => told_area(map::area_at(map, Place(place)), place),
-    }
-}
-
-// "The answer is the new place", as for cross.
-fn moved(a: PlaceAnswer, place: usize) -> Told
-    requires { ⌜ valueOf (placeMeans a) < 65536 ⌝ }
-    ensures { λ r. ⌜ Gives Call.cross (placeMeans a) place r ⌝ }
-{
-    match a {
-        PlaceAnswer::At(p) => answered(p.0, p.0),
-        PlaceAnswer::Declined(k) => declined(k, place),
-    }
-}
-
-// "The place stays."
-fn told_point(a: PointAnswer, place: usize) -> Told
-    requires { ⌜ valueOf (pointMeans a) < 65536 ⌝ }
-    ensures { λ r. ⌜ Gives Call.point (pointMeans a) place r ⌝ }
-{
-    match a {
-        PointAnswer::Is(p) => answered(p.0, place),
-        PointAnswer::Declined(k) => declined(k, place),
-    }
-}
-
-// "The place stays."
-fn told_area(a: AreaAnswer, place: usize) -> Told
-    requires { ⌜ valueOf (areaMeans a) < 65536 ⌝ }
-    ensures { λ r. ⌜ Gives Call.area (areaMeans a) place r ⌝ }
-{
-    match a {
-        AreaAnswer::Is(p) => answered(p.0, place),
-        AreaAnswer::Declined(k) => declined(k, place),
-    }
-}
-
-// An answer, and the place after it.
-fn answered(value: usize, place: usize) -> Told
-    requires { ⌜ value < 65536 ⌝ }
-    ensures { λ r. ⌜ (r .status ≡ 0) × (r .value ≡ value) × (r .place ≡ place) ⌝ }
-{
-    Told {
-        status: 0,
-        value: value as u16,
-        place,
-    }
-}
-
-// A refusal, at a place that stays.
-fn declined(k: u8, place: usize) -> Told
-    ensures { λ r. ⌜ (r .status ≡ k) × (r .value ≡ 0) × (r .place ≡ place) ⌝ }
-{
-    Told {
-        status: k,
-        value: 0,
-        place,
-    }
 }

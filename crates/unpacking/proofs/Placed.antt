@@ -1,109 +1,153 @@
--- The end and the mark at a position, from what the strings' functions promise.
+-- The pass that puts an end at each position: the next even one at an opening, the one beside its mate's at a closing.
 --
--- nested-in       == the word of bytes that open is balanced in both families
--- family-openings == the openings of one family: rank in A, then zeros in the family's string
--- both-openings   == the openings of both families are all
--- end-closes, end-opens == the end at a closing, at an opening
--- end-below, end-few == an end is below 2m, and so below 4,096
--- mark-is         == the mark by the family
+-- nested-in         == the word of bytes that open is balanced in both families
+-- end-first, end-second == which of two numbers the end at a position is
+-- Placing s old n p even l == the ends before position p stand in l, and the next opening has the end `even`
+-- placing-start, placing-opens, placing-closes, placing-end == from one position to the next
+-- placing-room, mate-room == there are entries for a position and for its mate
+-- end-small       == an end fits its entry
 -- Assumes nothing.
 use mathlib.Core.Path.{_≡_, refl, sym, ap, _∙_}
-use mathlib.Core.Logic.{⊎-elim}
-use mathlib.Core.Bool.{Bool, true, false, not, _&&_}
+use mathlib.Core.Logic.{_≢_, ⊎-elim}
+use mathlib.Core.Bool.{true, false, not}
 use mathlib.Core.List.{List}
 use Prim.Native.Nat.{ℕ, _+_, _*_, _<_, _≤_}
 use native.Mathlib.Omega.{arith}
-use Rattle.count.specs.Below.{count}
-use Rattle.count.proofs.Logic.{true-or-false}
-use Rattle.count.proofs.Below.{count-same, count-split}
+use borrow.Author.Tests.{lt-ltb, le-ltb}
+use lib.Dec.{ltb}
+use lib.ListN.{length, getD, set}
+use Rattle.count.specs.Below.{pick}
+use Rattle.count.proofs.Logic.{lt-or-ge, pick-yes, pick-no}
+use Rattle.count.proofs.Below.{count-zero, count-yes, count-no, count-le}
 use Rattle.words.specs.Brackets.{Balanced}
 use Rattle.words.specs.declared.family.Family.{Family}
-use Rattle.words.specs.declared.family.Family.the-variants.{Round as round, Square as square}
-use Rattle.words.specs.Word.{sameFamily, Word, seen, crossing}
-use Rattle.words.proofs.Numbers.{openings}
-use Rattle.bits.specs.Strings.{isBit, rank, brackets}
-use Rattle.bits.proofs.Laws.{rank-openings}
-use Rattle.format.specs.Bytes.{sizeIn, bitsA, partA, partB, familyBit, wordIn}
+use Rattle.words.specs.Word.{Word, seen, crossing}
+use Rattle.words.proofs.Crossing.{crossing-below, crossing-closing, crossing-moves, crossing-later, crossing-earlier}
+use Rattle.format.specs.Bytes.{sizeIn, bitsA, wordIn}
 use Rattle.format.specs.Open.{openRefusal}
 use Rattle.format.specs.Pack.{opensBefore, endIn}
 use Rattle.format.proofs.Passes.{opens-passes}
 use Rattle.format.proofs.Decode.{passes-nested}
-use Rattle.roundtrip.proofs.Crossing.{crossing-opens, crossing-closes}
-use Rattle.roundtrip.proofs.Openings.{openings-seen}
 use Rattle.roundtrip.proofs.Ends.{end-in-opens, end-in-closes, end-in-below}
-use Rattle.walking.specs.Positions.{Position}
-use Rattle.walking.proofs.Openings.{thin-openings}
-use Rattle.walking.proofs.Decoded.{thins, places-most}
-use Rattle.unpacking.specs.Openings.{openingsIn}
+use Rattle.surveying.specs.Surveyed.{Mates}
+use Rattle.walking.proofs.Decoded.{places-most}
+use Rattle.unpacking.specs.Ended.{Ends}
+use Rattle.unpacking.proofs.Filling.{Filling, filling-start, filling-more}
 
 pub nested-in : (s : List ℕ) → openRefusal s ≡ 0 → (K : Family) → Balanced (seen K (wordIn s)) (wordIn s .size)
 unfolding wordIn
 nested-in s o K = passes-nested s (opens-passes s o) K
 
-pub family-openings : (s a b : List ℕ) (K : Family) (v p j r : ℕ) → v ≡ familyBit K → a ≡ partA s → b ≡ partB K s → j ≡ rank v a p → r ≡ rank 0 b j
-    → r ≡ openingsIn K s p
-unfolding openingsIn rank
-family-openings s a b K v p j r hv ha hb hj hr =
-    let f : r ≡ rank 0 (partB K s) (rank (familyBit K) (partA s) p) = cc in
-    f
-    ∙ sym (thin-openings (isBit (familyBit K) (partA s)) (seen K (wordIn s)) (brackets (partB K s)) p (thins s K p) p (omega arith)
-    ∙ rank-openings (partB K s) (rank (familyBit K) (partA s) p))
+-- ---- counting the openings
+module _ (w : Word) where
+  opens-zero : opensBefore w 0 ≡ 0
+  unfolding opensBefore
+  opens-zero = count-zero (λ q. not (w .letter q .closing))
 
--- an opening is a round one or a square one
-opens-round : (F : Family) (t : Bool) → sameFamily round F && not t ≡ not t && sameFamily round F
-opens-round round true = refl
-opens-round round false = refl
-opens-round square true = refl
-opens-round square false = refl
+  opens-le : (p : ℕ) → opensBefore w p ≤ p
+  unfolding opensBefore
+  opens-le p = count-le (λ q. not (w .letter q .closing)) p
 
-opens-square : (F : Family) (t : Bool) → sameFamily square F && not t ≡ not t && not (sameFamily round F)
-opens-square round true = refl
-opens-square round false = refl
-opens-square square true = refl
-opens-square square false = refl
+  opens-more : (p : ℕ) → w .letter p .closing ≡ false → opensBefore w (p + 1) ≡ opensBefore w p + 1
+  unfolding opensBefore
+  opens-more p e = count-yes (λ q. not (w .letter q .closing)) p (ap not e)
 
-word-openings : (w : Word) (p : ℕ) → openings (seen round w) p + openings (seen square w) p ≡ opensBefore w p
-unfolding opensBefore
-word-openings w p =
-    let o : ℕ → Bool = λ q. not (w .letter q .closing) in
-    let r : ℕ → Bool = λ q. sameFamily round (w .letter q .family) in
-    let a : openings (seen round w) p ≡ count (λ q. o q && r q) p
-    = openings-seen w round p
-    ∙ count-same (λ q. r q && o q) (λ q. o q && r q) p (λ q l. opens-round (w .letter q .family) (w .letter q .closing)) in
-    let b : openings (seen square w) p ≡ count (λ q. o q && not (r q)) p
-    = openings-seen w square p
-    ∙ count-same (λ q. sameFamily square (w .letter q .family) && o q) (λ q. o q && not (r q)) p
-    (λ q l. opens-square (w .letter q .family) (w .letter q .closing)) in
-    omega (arith, count-split o r p)
+  opens-same : (p : ℕ) → w .letter p .closing ≡ true → opensBefore w (p + 1) ≡ opensBefore w p
+  unfolding opensBefore
+  opens-same p e = count-no (λ q. not (w .letter q .closing)) p (ap not e)
 
-pub both-openings : (s : List ℕ) (p x y : ℕ) → x ≡ openingsIn round s p → y ≡ openingsIn square s p → x + y ≡ opensBefore (wordIn s) p
-unfolding openingsIn
-both-openings s p x y hx hy = omega (arith, word-openings (wordIn s) p)
+-- the end at a closing is beside its partner's
+beside-closes : (w : Word) (bal : (K : Family) → Balanced (seen K w) (w .size)) (p : ℕ) → p < w .size → w .letter p .closing ≡ true
+    → endIn w p ≡ endIn w (crossing w p) + 1
+beside-closes w bal p l t =
+    end-in-closes w p t ∙ ap (λ x. x + 1) (sym (end-in-opens w (crossing w p) (crossing-closing w bal p l ∙ ap not t)))
 
-module _ (s : List ℕ) (p : ℕ) (P : Position s p) where
-  pub end-below : (r : ℕ) → r ≡ endIn (wordIn s) p → r < bitsA (sizeIn s)
-  unfolding wordIn
-  end-below r e = omega (arith, end-in-below (wordIn s) (nested-in s (P .opens)) p (P .below))
+pub end-first : (p q even x : ℕ) → p < q → even ≡ pick (ltb p q) even x
+end-first p q even x c = sym (pick-yes (ltb p q) even x (lt-ltb p q c))
 
-  pub end-few : (r : ℕ) → r ≡ endIn (wordIn s) p → r < 4096
-  end-few r e = omega (arith, end-below r e, places-most s (P .opens))
+pub end-second : (p q even x : ℕ) → q ≤ p → x ≡ pick (ltb p q) even x
+end-second p q even x c = sym (pick-no (ltb p q) even x (le-ltb p q c))
 
-  module _ (q k : ℕ) (e : q ≡ crossing (wordIn s) p) where
-    pub end-closes : q < p → k ≡ opensBefore (wordIn s) q → 2 * k + 1 ≡ endIn (wordIn s) p
-    unfolding wordIn
-    end-closes l h =
-        ⊎-elim
-        (λ t. ap (λ x. 2 * x + 1) (h ∙ ap (opensBefore (wordIn s)) e) ∙ sym (end-in-closes (wordIn s) p t))
-        (λ f. absurd (omega (arith, crossing-opens (wordIn s) (nested-in s (P .opens)) p (P .below) f)))
-        (true-or-false (wordIn s .letter p .closing))
+module _ (s old : List ℕ) (n : ℕ) where
+  pub record Placing (p even : ℕ) (l : List ℕ) : Type 0 where
+    pub opens : openRefusal s ≡ 0
+    pub size : n ≡ bitsA (sizeIn s)
+    pub few : n ≤ 4096
+    pub counted : even ≡ 2 * opensBefore (wordIn s) p
+    pub small : even ≤ 2 * p
+    pub filling : Filling old n (endIn (wordIn s)) (λ x. x) p l
 
-    pub end-opens : p ≤ q → k ≡ opensBefore (wordIn s) p → 2 * k ≡ endIn (wordIn s) p
-    unfolding wordIn
-    end-opens l h =
-        ⊎-elim
-        (λ t. absurd (omega (arith, crossing-closes (wordIn s) (nested-in s (P .opens)) p (P .below) t)))
-        (λ f. ap (λ x. 2 * x) h ∙ sym (end-in-opens (wordIn s) p f))
-        (true-or-false (wordIn s .letter p .closing))
+  pub placing-start : openRefusal s ≡ 0 → n ≡ bitsA (sizeIn s) → 4096 ≤ length old → Placing 0 0 old
+  placing-start o h r =
+      let f : n ≤ 4096 = omega (arith, places-most s o) in
+      record {
+        opens = o;
+        size = h;
+        few = f;
+        counted = omega (arith, opens-zero (wordIn s));
+        small = omega arith;
+        filling = filling-start old n (endIn (wordIn s)) (λ x. x) (omega arith);
+      }
 
-pub mark-is : (s : List ℕ) (K : Family) (p x : ℕ) → K ≡ wordIn s .letter p .family → x ≡ familyBit K → x ≡ familyBit (wordIn s .letter p .family)
-mark-is s K p x e h = h ∙ ap familyBit e
+  module _ (p even : ℕ) (l : List ℕ) (W : Placing p even l) where
+    pub placing-room : p < n → p < length l
+    placing-room h = omega (arith, W .filling .room, W .filling .same-length)
+
+    pub placing-end : n ≤ p → Ends s l
+    placing-end h = record { at = λ q i. W .filling .done q (omega (arith, W .size)) }
+
+    module _ (mates : List ℕ) (q : ℕ) (h : p < n) (M : Mates s mates) (k : 4096 ≤ length mates) (e : q ≡ getD mates p 0) where
+      bal : (K : Family) → Balanced (seen K (wordIn s)) (wordIn s .size)
+      bal = nested-in s (W .opens)
+
+      inside : p < wordIn s .size
+      unfolding wordIn
+      inside = omega (arith, W .size)
+
+      mate-is : q ≡ crossing (wordIn s) p
+      mate-is = e ∙ M .at p (omega (arith, W .size)) (omega (arith, W .few))
+
+      pub mate-room : q < length l
+      unfolding wordIn
+      mate-room =
+          omega (arith, mate-is, crossing-below (wordIn s) bal p inside, W .size, W .filling .room, W .filling .same-length)
+
+      module _ (x h′ : ℕ) (g : x ≡ getD l q 0) (r : h′ ≡ pick (ltb p q) even (x + 1)) where
+        later : p < q → (wordIn s .letter p .closing ≡ false) × (h′ ≡ endIn (wordIn s) p)
+        later c =
+            let w = wordIn s in
+            let t : w .letter p .closing ≡ false = crossing-later w bal p inside (omega (arith, mate-is)) in
+            (t, r ∙ pick-yes (ltb p q) even (x + 1) (lt-ltb p q c) ∙ W .counted ∙ sym (end-in-opens w p t))
+
+        earlier : q ≤ p → (wordIn s .letter p .closing ≡ true) × (h′ ≡ endIn (wordIn s) p)
+        earlier c =
+            let w = wordIn s in
+            let m : q ≢ p = λ z. crossing-moves w bal p inside (sym mate-is ∙ z) in
+            let b : q < p = omega arith in
+            let t : w .letter p .closing ≡ true = crossing-earlier w bal p inside (omega (arith, mate-is)) in
+            let e : x ≡ endIn w (crossing w p) = g ∙ W .filling .done q b ∙ ap (endIn w) mate-is in
+            (t, r ∙ pick-no (ltb p q) even (x + 1) (le-ltb p q c) ∙ ap (λ z. z + 1) e ∙ sym (beside-closes w bal p inside t))
+
+        end-is : h′ ≡ endIn (wordIn s) p
+        end-is = ⊎-elim (λ c. later c .1) (λ c. earlier c .1) (lt-or-ge p q)
+
+        pub end-small : h′ < 65536
+        unfolding wordIn
+        end-small = omega (arith, end-is, end-in-below (wordIn s) bal p inside, W .size, W .few)
+
+        more : (even′ : ℕ) → even′ ≡ 2 * opensBefore (wordIn s) (p + 1) → Placing (p + 1) even′ (set l p h′)
+        more even′ e =
+            record {
+              opens = W .opens;
+              size = W .size;
+              few = W .few;
+              counted = e;
+              small = omega (arith, opens-le (wordIn s) (p + 1));
+              filling = filling-more old n (endIn (wordIn s)) (λ x. x) p l (W .filling) p h′ h refl end-is;
+            }
+
+        pub placing-opens : p < q → (even′ : ℕ) → even′ ≡ even + 2 → Placing (p + 1) even′ (set l p h′)
+        placing-opens c even′ e = more even′ (omega (arith, W .counted, opens-more (wordIn s) p (later c .0)))
+
+        pub placing-closes : q ≤ p → (even′ : ℕ) → even′ ≡ even → Placing (p + 1) even′ (set l p h′)
+        placing-closes c even′ e = more even′ (omega (arith, W .counted, opens-same (wordIn s) p (earlier c .0)))

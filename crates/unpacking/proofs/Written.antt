@@ -1,121 +1,76 @@
--- One pass over the positions that writes an entry at each: what it keeps from turn to turn, and what the list holds at the end.
+-- The pass that writes the drawing: at each position the entry of its end, and the mark of its border.
 --
--- Filling s old k F e n p l == the bytes s open; l is old with F x at each place x = e q of a position q before p, all places below k
--- filling-start, filling-more, filling-end == from one position to the next; F in the first k entries once each place below k was met
--- Turning, turning-start, turning-more, turning-end == the turning list, by the ends
--- Marking, marking-start, marking-more, marking-end == the marks, by the borders
--- position-here   == a number on the way is a position
+-- round-mate-is    == the partner among the round brackets
+-- part-fits, rest-fits, sum-fits == the parts of that sum fit 64 bits, and it does
+-- Writing s t k n p t′ k′ == t′ and k′ are the lists t and k with what was written before position p
+-- writing-start, writing-more, writing-turning, writing-marks == from one position to the next, and what the lists hold at the end
+-- mate-few, round-below, turning-room, marks-room == partners are positions, and there are entries for an end and for its border
 -- Assumes nothing.
-use mathlib.Core.Path.{_≡_, refl, sym, ap, _∙_}
-use mathlib.Core.Logic.{inl, inr}
+use mathlib.Core.Path.{_≡_, refl, sym, ap, ap₂, _∙_}
+use mathlib.Core.Logic.{⊎-elim}
 use mathlib.Core.List.{List}
-use Prim.Native.Nat.{ℕ, _+_, _-_, _*_, _/_, _<_, _≤_}
+use Prim.Native.Nat.{ℕ, _+_, _-_, _*_, _/_, _^_, _<_, _≤_}
 use native.Mathlib.Omega.{arith}
+use borrow.Author.Tests.{eq-eqb, ne-eqb}
 use lib.Dec.{eqb}
-use lib.ListN.{length, getD, set, drop, length-set, length-append, length-drop, List·getD-append}
-use lib.Seq.{getD-set-same, getD-set-other, getD-append-add, getD-drop, ext-getD}
-use Rattle.count.specs.Below.{table}
-use Rattle.count.proofs.Logic.{same-or-not, lt-or-ge}
-use Rattle.count.proofs.Lists.{table-length, table-getD}
-use Rattle.words.specs.Brackets.{step}
+use lib.ListN.{length, getD, set}
+use Rattle.count.specs.Below.{pick, table}
+use Rattle.count.proofs.Logic.{same-or-not, pick-yes, pick-no}
+use Rattle.count.proofs.Lists.{table-getD}
+use Rattle.words.specs.Brackets.{Balanced, mate, next, step}
 use Rattle.words.specs.declared.family.Family.{Family}
 use Rattle.words.specs.declared.family.Family.the-variants.{Round as round, Square as square}
-use Rattle.words.specs.Word.{sameFamily, seen}
+use Rattle.words.specs.Word.{sameFamily, seen, crossing}
+use Rattle.words.proofs.Crossing.{mate-own, mate-else, crossing-below}
+use Rattle.bits.specs.Strings.{bit}
+use Rattle.bits.proofs.Laws.{bit-below-2}
 use Rattle.drawing.specs.Drawing.{border, isMarked}
 use Rattle.drawing.specs.Laid.{laid}
-use Rattle.format.specs.Bytes.{sizeIn, bitsA, familyBit, wordIn}
+use Rattle.format.specs.Bytes.{sizeIn, bitsA, partA, familyBit, wordIn}
 use Rattle.format.specs.Open.{openRefusal}
 use Rattle.format.specs.Pack.{endIn, positionIn, drawingOf}
-use Rattle.roundtrip.proofs.Ends.{position-in, position-in-below, position-in-end}
+use Rattle.format.proofs.Strings.{bit-back}
+use Rattle.roundtrip.proofs.Ends.{end-in-below, position-in, position-in-below, position-in-end}
 use Rattle.roundtrip.proofs.Drawing.{drawing-marked}
-use Rattle.walking.specs.Positions.{Position}
+use Rattle.surveying.specs.Surveyed.{Mates}
 use Rattle.walking.proofs.Decoded.{places-most}
+use Rattle.walking.proofs.Walks.{family-round, family-square}
+use Rattle.unpacking.specs.Ended.{Ends}
+use Rattle.unpacking.proofs.Filling.{Filling, filling-start, filling-more, filling-end}
 use Rattle.unpacking.proofs.Placed.{nested-in}
 
-module _ (s old : List ℕ) (k : ℕ) (F e : ℕ → ℕ) (n : ℕ) where
-  pub record Filling (p : ℕ) (l : List ℕ) : Type 0 where
-    pub opens : openRefusal s ≡ 0
-    pub size : n ≡ bitsA (sizeIn s)
-    pub few : n ≤ 4096
-    pub room : k ≤ length old
-    pub same-length : length l ≡ length old
-    pub done : (q : ℕ) → q < p → getD l (e q) 0 ≡ F (e q)
-    pub rest : (x : ℕ) → k ≤ x → getD l x 0 ≡ getD old x 0
+-- ---- the position after one about a point
+module _ (mark : ℕ) (l : mark < 2) where
+  by-mark : {X : Type 0} → (mark ≡ 1 → X) → (mark ≡ 0 → X) → X
+  by-mark f g = ⊎-elim f (λ m. g (omega arith)) (same-or-not mark 1)
 
-  pub filling-start : openRefusal s ≡ 0 → n ≡ bitsA (sizeIn s) → k ≤ length old → Filling 0 old
-  filling-start o h r =
-      record {
-        opens = o;
-        size = h;
-        few = omega (arith, places-most s o);
-        room = r;
-        same-length = refl;
-        done = λ q l. absurd (omega arith);
-        rest = λ x l. refl;
-      }
+  pub round-mate-is : (p q : ℕ) → mark * q + (1 - mark) * p ≡ pick (eqb mark 1) q p
+  round-mate-is p q = by-mark (λ e. rw e (omega arith)) (λ e. rw e (omega arith))
 
-  pub filling-more : (p : ℕ) (l : List ℕ) (x y : ℕ) → Filling p l → x < k → x ≡ e p → y ≡ F x → Filling (p + 1) (set l x y)
-  filling-more p l x y W b h g =
-      let in-list : x < length l = omega (arith, W .room, W .same-length) in
-      record {
-        opens = W .opens;
-        size = W .size;
-        few = W .few;
-        room = W .room;
-        same-length = length-set l x y ∙ W .same-length;
-        done = λ q i.
-            elim (same-or-not (e q) x) [
-              | inl m ↦ ap (λ z. getD (set l x y) z 0) m ∙ getD-set-same l x y 0 in-list ∙ g ∙ ap F (sym m)
-              | inr m ↦
-                  elim (same-or-not q p) [
-                    | inl c ↦ absurd (m (ap e c ∙ sym h))
-                    | inr c ↦ getD-set-other l x (e q) y 0 m ∙ W .done q (omega arith)
-                  ]
-            ];
-        rest = λ z i. getD-set-other l x z y 0 (λ m. omega arith) ∙ W .rest z i;
-      }
+  part-small : (x : ℕ) → x < 4096 → mark * x < 4096
+  part-small x h = by-mark (λ e. rw e (omega arith)) (λ e. rw e (omega arith))
 
-  pub filling-end : (p : ℕ) (l : List ℕ) → Filling p l → n ≤ p → ((x : ℕ) → x < k → (q : ℕ) × (q < n) × (e q ≡ x)) → l ≡ laid (table F k) old
-  filling-end p l W h met =
-      let t : length (table F k) ≡ k = table-length F k in
-      let b : length (laid (table F k) old) ≡ length old
-      = omega (arith, length-append (table F k) (drop (length (table F k)) old), length-drop (length (table F k)) old, W .room) in
-      ext-getD 0 l (laid (table F k) old) (omega (arith, W .same-length))
-      (λ x i.
-      elim (lt-or-ge x k) [
-        | inl c ↦
-            let m = met x c in
-            let j : m .0 < p = omega (arith, m .1) in
-            ap (λ z. getD l z 0) (sym (m .2)) ∙ W .done (m .0) j ∙ ap F (m .2)
-            ∙ sym (List·getD-append (table F k) (drop (length (table F k)) old) 0 x (omega arith) ∙ table-getD F k x 0 c)
-        | inr c ↦
-            let f : length (table F k) + (x - k) ≡ x = omega arith in
-            W .rest x c
-            ∙ sym (ap (λ z. getD (laid (table F k) old) z 0) (sym f)
-            ∙ getD-append-add (table F k) (drop (length (table F k)) old) (x - k) 0
-            ∙ getD-drop (length (table F k)) old (x - k) 0
-            ∙ ap (λ z. getD old z 0) f)
-      ])
+  rest-small : (x : ℕ) → x < 4096 → (1 - mark) * x < 4096
+  rest-small x h = by-mark (λ e. rw e (omega arith)) (λ e. rw e (omega arith))
 
-  pub position-here : (p : ℕ) (l : List ℕ) → Filling p l → p < n → Position s p
-  position-here p l W h = record { opens = W .opens; below = omega (arith, W .size); few = omega (arith, W .few) }
+  pub part-fits : (x : ℕ) → x < 4096 → mark * x < 2 ^ 64
+  part-fits x h = omega (arith, part-small x h)
 
--- ---- the turning list: each end once
+  pub rest-fits : (x : ℕ) → x < 4096 → (1 - mark) * x < 2 ^ 64
+  rest-fits x h = omega (arith, rest-small x h)
+
+  pub sum-fits : (x y : ℕ) → x < 4096 → y < 4096 → mark * x + (1 - mark) * y < 2 ^ 64
+  sum-fits x y h k = omega (arith, part-small x h, rest-small y k)
+
+-- ---- what the lists are to hold: the turning list by the ends, the marks by the borders, each of them twice
 abbrev pub turnsTo : List ℕ → ℕ → ℕ
 turnsTo s h = endIn (wordIn s) (step (seen round (wordIn s)) (wordIn s .size) (positionIn (wordIn s) h))
 
-abbrev pub Turning : List ℕ → List ℕ → ℕ → ℕ → List ℕ → Type 0
-Turning s old n p l = Filling s old (bitsA (sizeIn s)) (turnsTo s) (endIn (wordIn s)) n p l
-
--- ---- the marks: each border twice, at two letters of one family
 abbrev pub borderIn : List ℕ → ℕ → ℕ
 borderIn s p = endIn (wordIn s) p / 2
 
 abbrev pub markOf : List ℕ → ℕ → ℕ
 markOf s e = familyBit (wordIn s .letter (positionIn (wordIn s) (2 * e)) .family)
-
-abbrev pub Marking : List ℕ → List ℕ → ℕ → ℕ → List ℕ → Type 0
-Marking s old n p l = Filling s old (sizeIn s .m) (markOf s) (borderIn s) n p l
 
 same-bit : (K L : Family) → eqb (familyBit K) 1 ≡ sameFamily round L → familyBit L ≡ familyBit K
 same-bit round round e = refl
@@ -123,60 +78,137 @@ same-bit round square e = cc
 same-bit square round e = cc
 same-bit square square e = refl
 
-module _ (s old : List ℕ) (n : ℕ) where
-  pub turning-start : openRefusal s ≡ 0 → n ≡ bitsA (sizeIn s) → bitsA (sizeIn s) ≤ length old → Turning s old n 0 old
-  turning-start o h r = filling-start s old (bitsA (sizeIn s)) (turnsTo s) (endIn (wordIn s)) n o h r
+-- ---- what is written at a position
+module _ (s : List ℕ) (p : ℕ) where
+  mark-is : familyBit (wordIn s .letter p .family) ≡ bit (partA s) p
+  unfolding wordIn
+  mark-is = bit-back (bit (partA s) p) (bit-below-2 (partA s) p)
 
-  pub marking-start : openRefusal s ≡ 0 → n ≡ bitsA (sizeIn s) → sizeIn s .m ≤ length old → Marking s old n 0 old
-  marking-start o h r = filling-start s old (sizeIn s .m) (markOf s) (borderIn s) n o h r
+  step-is : step (seen round (wordIn s)) (bitsA (sizeIn s)) p ≡ next (bitsA (sizeIn s)) (pick (eqb (bit (partA s) p) 1) (crossing (wordIn s) p) p)
+  unfolding step wordIn
+  step-is =
+      let w = wordIn s in
+      let x : ℕ = bit (partA s) p in
+      ap (next (bitsA (sizeIn s)))
+      (⊎-elim
+      (λ e. mate-own w round p (sym (family-round s p (partA s) x refl refl e)) ∙ sym (pick-yes (eqb x 1) (crossing w p) p (eq-eqb x 1 e)))
+      (λ m. mate-else w round p (ap (sameFamily round) (sym (family-square s p (partA s) x refl refl m)))
+      ∙ sym (pick-no (eqb x 1) (crossing w p) p (ne-eqb x 1 m)))
+      (same-or-not x 1))
 
-  module _ (p : ℕ) (l : List ℕ) where
-    pub turning-more : (h q g : ℕ) → Turning s old n p l → p < n → h ≡ endIn (wordIn s) p → h < bitsA (sizeIn s)
-        → q ≡ step (seen round (wordIn s)) (bitsA (sizeIn s)) p → g ≡ endIn (wordIn s) q → Turning s old n (p + 1) (set l h g)
-    unfolding wordIn
-    turning-more h q g W b H L Q G =
-        let w = wordIn s in
-        filling-more s old (bitsA (sizeIn s)) (turnsTo s) (endIn w) n p l h g W L H
-        (G ∙ ap (endIn w) Q
-        ∙ ap (λ x. endIn w (step (seen round w) (w .size) x))
-        (sym (ap (positionIn w) H ∙ position-in w (nested-in s (W .opens)) p (omega (arith, W .size)))))
+module _ (s t k : List ℕ) (n : ℕ) where
+  pub record Writing (p : ℕ) (t′ k′ : List ℕ) : Type 0 where
+    pub opens : openRefusal s ≡ 0
+    pub size : n ≡ bitsA (sizeIn s)
+    pub few : n ≤ 4096
+    pub turning : Filling t (bitsA (sizeIn s)) (turnsTo s) (endIn (wordIn s)) p t′
+    pub marks : Filling k (sizeIn s .m) (markOf s) (borderIn s) p k′
 
-    pub turning-end : Turning s old n p l → n ≤ p → l ≡ laid (drawingOf (wordIn s) .turning) old
+  pub writing-start : openRefusal s ≡ 0 → n ≡ bitsA (sizeIn s) → bitsA (sizeIn s) ≤ length t → sizeIn s .m ≤ length k → Writing 0 t k
+  writing-start o h a b =
+      record {
+        opens = o;
+        size = h;
+        few = omega (arith, places-most s o);
+        turning = filling-start t (bitsA (sizeIn s)) (turnsTo s) (endIn (wordIn s)) a;
+        marks = filling-start k (sizeIn s .m) (markOf s) (borderIn s) b;
+      }
+
+  module _ (p : ℕ) (t′ k′ : List ℕ) (W : Writing p t′ k′) where
+    bal : (K : Family) → Balanced (seen K (wordIn s)) (wordIn s .size)
+    bal = nested-in s (W .opens)
+
+    -- ---- the lists at the end: every end has its position
+    pub writing-turning : n ≤ p → t′ ≡ laid (drawingOf (wordIn s) .turning) t
     unfolding wordIn drawingOf
-    turning-end W b =
+    writing-turning b =
         let w = wordIn s in
-        let bal = nested-in s (W .opens) in
-        filling-end s old (bitsA (sizeIn s)) (turnsTo s) (endIn w) n p l W b
+        filling-end t (bitsA (sizeIn s)) (turnsTo s) (endIn w) p t′ (W .turning)
         (λ x c.
         let i : positionIn w x < bitsA (sizeIn s) = position-in-below w bal x c in
         (positionIn w x, omega (arith, W .size), position-in-end w bal x c))
 
-    mark-stands : Marking s old n p l → p < n → borderIn s p < sizeIn s .m → familyBit (wordIn s .letter p .family) ≡ markOf s (borderIn s p)
-    unfolding wordIn isMarked drawingOf border
-    mark-stands W b c =
-        let w = wordIn s in
-        let c′ : borderIn s p < w .size / 2 = omega arith in
-        same-bit (w .letter (positionIn w (2 * borderIn s p)) .family) (w .letter p .family)
-        (ap (λ x. eqb x 1) (sym (table-getD (markOf s) (w .size / 2) (borderIn s p) 0 c′))
-        ∙ drawing-marked w (nested-in s (W .opens)) p (omega (arith, W .size)))
-
-    pub marking-more : (h x : ℕ) → Marking s old n p l → p < n → h ≡ endIn (wordIn s) p → h < bitsA (sizeIn s)
-        → x ≡ familyBit (wordIn s .letter p .family) → Marking s old n (p + 1) (set l (h / 2) x)
-    marking-more h x W b H L X =
-        let c : h / 2 < sizeIn s .m = omega arith in
-        let f : h / 2 ≡ borderIn s p = ap (λ z. z / 2) H in
-        filling-more s old (sizeIn s .m) (markOf s) (borderIn s) n p l (h / 2) x W c f
-        (X ∙ mark-stands W b (omega arith) ∙ ap (markOf s) (sym f))
-
-    pub marking-end : Marking s old n p l → n ≤ p → l ≡ laid (drawingOf (wordIn s) .marks) old
+    pub writing-marks : n ≤ p → k′ ≡ laid (drawingOf (wordIn s) .marks) k
     unfolding wordIn drawingOf
-    marking-end W b =
+    writing-marks b =
         let w = wordIn s in
-        let bal = nested-in s (W .opens) in
         let half : sizeIn s .m ≡ w .size / 2 = omega arith in
-        filling-end s old (sizeIn s .m) (markOf s) (borderIn s) n p l W b
+        filling-end k (sizeIn s .m) (markOf s) (borderIn s) p k′ (W .marks)
         (λ x c.
-        let k : 2 * x < w .size = omega arith in
-        let i : positionIn w (2 * x) < w .size = position-in-below w bal (2 * x) k in
-        (positionIn w (2 * x), omega (arith, W .size), ap (λ z. z / 2) (position-in-end w bal (2 * x) k) ∙ omega arith))
-        ∙ ap (λ z. laid (table (markOf s) z) old) half
+        let j : 2 * x < w .size = omega arith in
+        let i : positionIn w (2 * x) < w .size = position-in-below w bal (2 * x) j in
+        (positionIn w (2 * x), omega (arith, W .size), ap (λ z. z / 2) (position-in-end w bal (2 * x) j) ∙ omega arith))
+        ∙ ap (λ z. laid (table (markOf s) z) k) half
+
+    module _ (l : p < n) where
+      inside : p < wordIn s .size
+      unfolding wordIn
+      inside = omega (arith, W .size)
+
+      module _ (mates : List ℕ) (q : ℕ) (M : Mates s mates) (e : 4096 ≤ length mates) (f : q ≡ getD mates p 0) where
+        mate-is : q ≡ crossing (wordIn s) p
+        mate-is = f ∙ M .at p (omega (arith, W .size)) (omega (arith, W .few))
+
+        mate-below : q < n
+        unfolding wordIn
+        mate-below = omega (arith, mate-is, crossing-below (wordIn s) bal p inside, W .size)
+
+        pub mate-few : q < 4096
+        mate-few = omega (arith, mate-below, W .few)
+
+        pub round-below : (mark r : ℕ) → r ≡ pick (eqb mark 1) q p → r < n
+        round-below mark r h =
+            ⊎-elim
+            (λ e. omega (arith, mate-below, pick-yes (eqb mark 1) q p (eq-eqb mark 1 e)))
+            (λ m. omega (arith, pick-no (eqb mark 1) q p (ne-eqb mark 1 m)))
+            (same-or-not mark 1)
+
+      module _ (ends : List ℕ) (h : ℕ) (E : Ends s ends) (f : h ≡ getD ends p 0) where
+        end-is : h ≡ endIn (wordIn s) p
+        end-is = f ∙ E .at p (omega (arith, W .size))
+
+        end-below : h < bitsA (sizeIn s)
+        unfolding wordIn
+        end-below = omega (arith, end-is, end-in-below (wordIn s) bal p inside)
+
+        pub turning-room : h < length t′
+        turning-room = omega (arith, end-below, W .turning .room, W .turning .same-length)
+
+        pub marks-room : h / 2 < length k′
+        marks-room = omega (arith, end-below, W .marks .room, W .marks .same-length)
+
+      -- the family of a border's letters is that of its first
+      mark-stands : bit (partA s) p ≡ markOf s (borderIn s p)
+      unfolding wordIn isMarked drawingOf border
+      mark-stands =
+          let w = wordIn s in
+          let c : borderIn s p < w .size / 2 = omega (arith, end-in-below w bal p inside) in
+          sym (mark-is s p)
+          ∙ same-bit (w .letter (positionIn w (2 * borderIn s p)) .family) (w .letter p .family)
+          (ap (λ x. eqb x 1) (sym (table-getD (markOf s) (w .size / 2) (borderIn s p) 0 c)) ∙ drawing-marked w bal p inside)
+
+      pub writing-more : (mates ends a : List ℕ) (mark h c d q g : ℕ) → Mates s mates → Ends s ends → 4096 ≤ length mates → a ≡ partA s
+          → mark ≡ bit a p → h ≡ getD ends p 0 → c ≡ getD mates p 0 → d ≡ pick (eqb mark 1) c p → q ≡ next n d → q < n → g ≡ getD ends q 0
+          → Writing (p + 1) (set t′ h g) (set k′ (h / 2) mark)
+      unfolding wordIn
+      writing-more mates ends a mark h c d q g M E e ha hm hh hc hd hq i hg =
+          let w = wordIn s in
+          let N : ℕ = bitsA (sizeIn s) in
+          let m : mark ≡ bit (partA s) p = hm ∙ ap (λ z. bit z p) ha in
+          let x : h ≡ endIn w p = end-is ends h E hh in
+          let y : h < N = end-below ends h E hh in
+          let z : c ≡ crossing w p = mate-is mates c M e hc in
+          let v : q ≡ step (seen round w) N p
+          = hq ∙ ap₂ next (W .size) hd ∙ ap₂ (λ z u. next N (pick (eqb z 1) u p)) m z ∙ sym (step-is s p) in
+          let u : g ≡ endIn w q = hg ∙ E .at q (omega (arith, W .size)) in
+          record {
+            opens = W .opens;
+            size = W .size;
+            few = W .few;
+            turning =
+                filling-more t N (turnsTo s) (endIn w) p t′ (W .turning) h g y x
+                (u ∙ ap (endIn w) v ∙ ap (λ z. endIn w (step (seen round w) N z)) (sym (ap (positionIn w) x ∙ position-in w bal p inside)));
+            marks =
+                filling-more k (sizeIn s .m) (markOf s) (borderIn s) p k′ (W .marks) (h / 2) mark (omega arith) (ap (λ z. z / 2) x)
+                (m ∙ mark-stands ∙ ap (λ z. markOf s (z / 2)) (sym x));
+          }

@@ -1,3 +1,3 @@
--- Unpacking a packed map: what an answer means, and what the lent lists hold after it.
+-- Unpacking a packed map: what an answer means, and what the list of ends holds on the way.
 pub mod Answers
-pub mod Openings
+pub mod Ended

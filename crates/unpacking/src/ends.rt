@@ -1,52 +1,39 @@
-// The end and the mark that unpacking puts at a position of the word. Asked only of bytes that open.
-use layout::family_bit;
-use layout::part_a;
-use layout::part_b;
-use walking::crossing_at;
-use walking::family_at;
-use words::Family;
+// The end at each position of the word, in one pass: borders are numbered as their first places come.
+use bits::wide;
+use layout::bits_a;
 ghost use mathlib.Core.Path.{_≡_};
-ghost use Prim.Native.Nat.{_<_, _≤_};
-ghost use Rattle.drawing.specs.Drawing.{mostEnds};
-ghost use Rattle.format.specs.Bytes.{sizeIn, bitsA, familyBit, wordIn};
-ghost use Rattle.format.specs.Pack.{opensBefore, endIn};
-ghost use Rattle.walking.specs.Positions.{Position};
-ghost use Rattle.unpacking.specs.Openings.{openingsIn};
+ghost use Prim.Native.Nat.{_+_, _<_, _≤_};
+ghost use lib.Dec.{ltb};
+ghost use lib.ListN.{length};
+ghost use Rattle.count.specs.Below.{pick};
+ghost use Rattle.format.specs.Open.{openRefusal};
+ghost use Rattle.surveying.specs.Surveyed.{Mates};
+ghost use Rattle.unpacking.specs.Ended.{Ends};
 
-// The end at position p: "The first place is the even end".
-pub fn end_at(map: &[u8], p: usize) -> usize
-    requires { ⌜ Position (now map) p ⌝ }
-    ensures { λ r. ⌜ r ≡ endIn (wordIn (now (map .entry))) p ⌝ }
-    ensures { λ r. ⌜ (r < bitsA (sizeIn (now (map .entry)))) × (r < mostEnds) ⌝ }
+// Writes the end at each position.
+pub fn write_ends(map: &[u8], mates: &[u16], ends: &mut [u16])
+    requires { ⌜ (openRefusal (now map) ≡ 0) × Mates (now map) (now mates) ⌝ }
+    requires { ⌜ (4096 ≤ length (now mates)) × (4096 ≤ length (now ends)) ⌝ }
+    ensures { λ _. ⌜ Ends (now (map .entry)) (now (ends .exit)) ⌝ }
 {
-    let q = crossing_at(map, p);
-    if q < p {
-        2 * opens_before(map, q) + 1
-    } else {
-        2 * opens_before(map, p)
+    let n = bits_a(map);
+    let mut even = 0;
+    let mut p = 0;
+    while p < n {
+        let q = wide(mates[p]);
+        ends[p] = end_by(p, q, even, wide(ends[q])) as u16;
+        if p < q {
+            even += 2;
+        }
+        p += 1;
     }
 }
 
-// The mark of the border at position p: 1 for a round bracket, 0 for a square one.
-pub fn mark_at(map: &[u8], p: usize) -> u8
-    ensures { λ r. ⌜ r ≡ familyBit (wordIn (now (map .entry)) .letter p .family) ⌝ }
+// The end at position p, whose mate is q: a first place has the next even end, a second place the one after its mate's. A
+// choice between two numbers and no branch: which of the two comes next can't be foreseen.
+fn end_by(p: usize, q: usize, even: usize, first: usize) -> usize
+    requires { ⌜ first < 65536 ⌝ }
+    ensures { λ r. ⌜ r ≡ pick (ltb p q) even (first + 1) ⌝ }
 {
-    let family = family_at(map, p);
-    family_bit(family) as u8
-}
-
-// How many brackets open before position p.
-fn opens_before(map: &[u8], p: usize) -> usize
-    requires { ⌜ Position (now map) p ⌝ }
-    ensures { λ r. ⌜ (r ≡ opensBefore (wordIn (now (map .entry))) p) × (r < 8192) ⌝ }
-{
-    openings(map, Family::Round, p) + openings(map, Family::Square, p)
-}
-
-// How many brackets of a family open before position p.
-fn openings(map: &[u8], family: Family, p: usize) -> usize
-    ensures { λ r. ⌜ (r ≡ openingsIn family (now (map .entry)) p) × (r ≤ p) ⌝ }
-{
-    let j = bits::rank(part_a(map), family_bit(family), p);
-    bits::rank(part_b(map, family), 0, j)
+    if p < q { even } else { first + 1 }
 }

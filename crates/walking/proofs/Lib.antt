@@ -4,3 +4,4 @@ pub mod Partners
 pub mod Decoded
 pub mod Walks
 pub mod Checked
+pub mod Turns

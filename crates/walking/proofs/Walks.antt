@@ -3,7 +3,8 @@
 -- family-round, family-square == the family of a letter, by its bit in A
 -- mate-own, mate-own-at, mate-other == the partner of a position of the family, and of one of the other family
 -- cross-is                    == the crossing is the partner in the position's own family
--- step-last, step-last-at, step-next, step-next-at == the step, after the last position and elsewhere
+-- after-next, after-last, after-below, after-few == the position after one, and what is asked for it
+-- step-is, step-position      == the step is the position after the partner
 -- number-is-rank              == the number
 -- Firsts                      == what holds of the first position of a number
 -- first-holds, first-one, first-more == it holds of `first`, which is 0 for number 1, else after the opening that reaches it
@@ -16,12 +17,13 @@ use native.Mathlib.Omega.{arith}
 use borrow.Author.Tests.{eq-eqb, ne-eqb}
 use lib.Dec.{eqb}
 use Rattle.count.proofs.Logic.{pick-yes, pick-no}
-use Rattle.words.specs.Brackets.{inner, mate, step, number, first}
+use Rattle.words.specs.Brackets.{inner, mate, next, step, number, first}
 use Rattle.words.specs.declared.family.Family.{Family}
 use Rattle.words.specs.declared.family.Family.the-variants.{Round as round, Square as square}
 use Rattle.words.specs.Word.{seen, crossing}
 use Rattle.words.proofs.Stack.{inner-le, inner-inner}
 use Rattle.words.proofs.Mate.{mate-below, mate-neither}
+use Rattle.words.proofs.Step.{next-plain, next-last}
 use Rattle.words.proofs.Numbers.{first-zero, first-inner, number-reached, inner-number}
 use Rattle.bits.specs.Strings.{bit, rank, select, brackets}
 use Rattle.format.specs.Bytes.{sizeIn, bitsA, bitsB, partA, partB, familyBit, wordIn}
@@ -31,7 +33,6 @@ use Rattle.opening.specs.declared.answers.Cell.{Cell}
 use Rattle.opening.specs.Cells.{kindOf, numberOfCell}
 use Rattle.walking.specs.Positions.{Position, Numbered}
 use Rattle.walking.proofs.Decoded.{places-most, seen-neither, nested, mate-ranks, number-ranks, openings-ranks, first-ranks, cells-openings}
-use Rattle.walking.proofs.Partners.{step-inside, step-around}
 
 module _ (s : List ℕ) (p : ℕ) (a : List ℕ) (x : ℕ) (ha : a ≡ partA s) (hx : x ≡ bit a p) where
   bit-is : bit (partA s) p ≡ x
@@ -47,6 +48,20 @@ module _ (s : List ℕ) (p : ℕ) (a : List ℕ) (x : ℕ) (ha : a ≡ partA s) 
 
 position : (s : List ℕ) (r : ℕ) → openRefusal s ≡ 0 → r < bitsA (sizeIn s) → Position s r
 position s r o l = record { opens = o; below = l; few = omega (arith, places-most s o) }
+
+-- ---- the position after one
+module _ (n q : ℕ) where
+  pub after-next : q + 1 < n → q + 1 ≡ next n q
+  after-next h = sym (next-plain n q (omega arith))
+
+  pub after-last : q < n → n ≤ q + 1 → 0 ≡ next n q
+  after-last l h = sym (next-last n q (omega arith))
+
+  pub after-below : (s : List ℕ) → Position s q → n ≡ bitsA (sizeIn s) → q < n
+  after-below s P e = omega (arith, P .below)
+
+pub after-few : (s : List ℕ) (n q : ℕ) → Position s q → n ≡ bitsA (sizeIn s) → n ≤ 4096
+after-few s n q P e = omega (arith, places-most s (P .opens))
 
 module _ (s : List ℕ) (K : Family) (p : ℕ) (P : Position s p) where
   mate-at : (r : ℕ) → r ≡ mate (seen K (wordIn s)) (bitsA (sizeIn s)) p → Position s r
@@ -72,20 +87,13 @@ module _ (s : List ℕ) (K : Family) (p : ℕ) (P : Position s p) where
       sym (mate-neither (seen K (wordIn s)) (bitsA (sizeIn s)) p
       (seen-neither s K p (λ e. m (sym (bit-is s p a x ha hx) ∙ e ∙ sym hv))))
 
-  module _ (r n : ℕ) (e : r ≡ mate (seen K (wordIn s)) (bitsA (sizeIn s)) p) (hn : n ≡ bitsA (sizeIn s)) where
-    pub step-last : n ≤ r + 1 → 0 ≡ step (seen K (wordIn s)) (bitsA (sizeIn s)) p
-    step-last h =
-        let l = mate-at r e .below in
-        sym (step-around (seen K (wordIn s)) (bitsA (sizeIn s)) p (omega arith))
+  pub step-is : (q n r : ℕ) → q ≡ mate (seen K (wordIn s)) (bitsA (sizeIn s)) p → n ≡ bitsA (sizeIn s) → r ≡ next n q
+      → r ≡ step (seen K (wordIn s)) (bitsA (sizeIn s)) p
+  unfolding step
+  step-is q n r e f h = h ∙ ap (λ k. next k q) f ∙ ap (next (bitsA (sizeIn s))) e
 
-    pub step-next : r + 1 < n → r + 1 ≡ step (seen K (wordIn s)) (bitsA (sizeIn s)) p
-    step-next h = omega (arith, step-inside (seen K (wordIn s)) (bitsA (sizeIn s)) p (omega arith))
-
-  pub step-last-at : Position s 0
-  step-last-at = position s 0 (P .opens) (omega (arith, P .below))
-
-  pub step-next-at : (r n : ℕ) → n ≡ bitsA (sizeIn s) → r + 1 < n → Position s (r + 1)
-  step-next-at r n e h = position s (r + 1) (P .opens) (omega arith)
+  pub step-position : (n r : ℕ) → n ≡ bitsA (sizeIn s) → r < n → Position s r
+  step-position n r e l = position s r (P .opens) (omega arith)
 
   pub number-is-rank : (a b : List ℕ) (v j i r : ℕ) → v ≡ familyBit K → a ≡ partA s → b ≡ partB K s → j ≡ rank v a p
       → i ≡ inner (brackets b) j → r ≡ rank 0 b i → r + 1 ≡ number (seen K (wordIn s)) p

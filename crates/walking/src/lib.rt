@@ -3,9 +3,13 @@
 //     family_at          the family of the bracket at a position
 //     crossing_at        the partner of a position, in its own family
 //     mate_at            its partner in a family
+//     after              the position after one, and 0 after the last
 //     step_at            the next position about the same point, the same area
+//     number_at          the number of its point, of its area, by the family
 //     point_of, area_of  its point, its area
 //     first_at           the first position of a point, of an area
+//     turn_past          turn, from a partner
+//     turn_back_past     turn back, from a partner
 //
 // Conventions. Positions count from 0: position p is place p + 1. Points and areas count from 1. Round
 // brackets enclose points, square ones areas; what holds of both is written once, for a family of
@@ -15,12 +19,17 @@
 // The source is document 01, "Tour and packed map" and "Moves". The definitions that the contracts cite
 // are those of the crate `words`, of the word that `format` finds in the bytes; specs/Positions.antt
 // says what is asked.
+mod turning;
 mod word;
 
+pub use turning::turn_back_past;
+pub use turning::turn_past;
+pub use word::after;
 pub use word::area_of;
 pub use word::crossing_at;
 pub use word::family_at;
 pub use word::first_at;
 pub use word::mate_at;
+pub use word::number_at;
 pub use word::point_of;
 pub use word::step_at;

@@ -9,10 +9,11 @@ use opening::Cell;
 use opening::Point;
 use words::Family;
 ghost use mathlib.Core.Path.{_≡_};
-ghost use Prim.Native.Nat.{_<_};
-ghost use Rattle.words.specs.Brackets.{mate, step, number, first};
+ghost use Prim.Native.Nat.{_<_, _≤_};
+ghost use Rattle.words.specs.Brackets.{mate, next, step, number, first};
 ghost use Rattle.words.specs.declared.family.Family.the-variants.{Round as round, Square as square};
 ghost use Rattle.words.specs.Word.{seen, crossing};
+ghost use Rattle.drawing.specs.Drawing.{mostEnds};
 ghost use Rattle.format.specs.Bytes.{sizeIn, bitsA, wordIn};
 ghost use Rattle.format.specs.Calls.{familyOfKind};
 ghost use Rattle.opening.specs.Cells.{kindOf, numberOfCell};
@@ -60,8 +61,16 @@ pub fn step_at(map: &[u8], family: Family, p: usize) -> usize
     ensures { λ r. ⌜ r ≡ step (seen family (wordIn (now (map .entry)))) (bitsA (sizeIn (now (map .entry)))) p ⌝ }
     ensures { λ r. ⌜ Position (now (map .entry)) r ⌝ }
 {
-    let q = mate_at(map, family, p) + 1;
-    if q < bits_a(map) { q } else { 0 }
+    after(bits_a(map), mate_at(map, family, p))
+}
+
+// The position after q, of n; 0 after the last.
+pub fn after(n: usize, q: usize) -> usize
+    requires { ⌜ (q < n) × (n ≤ mostEnds) ⌝ }
+    ensures { λ r. ⌜ (r ≡ next n q) × (r < n) ⌝ }
+{
+    let r = q + 1;
+    if r < n { r } else { 0 }
 }
 
 // The point that position p is about.
@@ -96,7 +105,7 @@ pub fn first_at(map: &[u8], cell: Cell) -> usize
 }
 
 // The number of the point (area) of p.
-fn number_at(map: &[u8], family: Family, p: usize) -> usize
+pub fn number_at(map: &[u8], family: Family, p: usize) -> usize
     requires { ⌜ Position (now map) p ⌝ }
     ensures { λ r. ⌜ r ≡ number (seen family (wordIn (now (map .entry)))) p ⌝ }
 {

@@ -12,3 +12,5 @@ pub mod Sizes
 pub mod Halves
 pub mod Same
 pub mod Thin
+pub mod Crossing
+pub mod Order

@@ -4,7 +4,7 @@
 -- word-lengths     == the strings of the word have the lengths that m and n say
 -- map-whole        == a length goes as far as itself
 -- map-fits         == the map fits into the output
--- map-a, map-b, map-s == each string's bytes are zero before it is written
+-- map-strung       == the strings' bytes are zero before they are written
 -- map-long, map-written == at the end the map's length is right, and its bytes are there
 -- Assumes nothing.
 use mathlib.Core.Path.{_≡_, sym, ap, _∙_}
@@ -14,6 +14,7 @@ use native.Mathlib.Omega.{arith}
 use lib.ListN.{length, getD, take, drop, length-drop, take-append-drop}
 use lib.Seq.{getD-drop, drop-drop, drop-cons, ext-getD}
 use Rattle.count.specs.Below.{count}
+use Rattle.count.proofs.Below.{count-zero}
 use Rattle.words.specs.declared.family.Family.{Family}
 use Rattle.words.specs.declared.family.Family.the-variants.{Round as round, Square as square}
 use Rattle.words.specs.Word.{Word}
@@ -22,9 +23,9 @@ use Rattle.format.specs.Bytes.{longest, header, Size, bitsB, startB, mapLength,
 use Rattle.format.proofs.Bits.{EachBelow}
 use Rattle.format.proofs.Strings.{inFamily, families-all, string-a-length, string-a-bits, string-b-length, string-b-bits}
 use Rattle.format.proofs.Parts.{Lengths, map-length}
-use Rattle.touring.specs.Working.{Outside, Zeroed}
-use Rattle.writing.specs.Writing.{wordAt, Legible, Sized, Holds, Filled, Headed}
-use Rattle.writing.proofs.Holding.{blank-holds, holds-kept, holds-part}
+use Rattle.touring.specs.Working.{Zeroed}
+use Rattle.writing.specs.Writing.{wordAt, Legible, Sized, Holds, Headed, Strung, Grown}
+use Rattle.writing.proofs.Holding.{blank-holds, holds-part}
 use Rattle.writing.proofs.Filling.{word-length}
 
 four-first : (s : List ℕ) → header ≤ length s → s ≡ getD s 0 0 ∷ getD s 1 0 ∷ getD s 2 0 ∷ getD s 3 0 ∷ drop 4 s
@@ -58,11 +59,12 @@ module _ (ms w : List ℕ) (n : ℕ) (L : Legible ms w) (Z : Sized n ms w) where
   abbrev B : Family → List ℕ
   B K = stringB K W
 
+  b-counted : (K : Family) → length (B K) ≡ count (inFamily K W) (2 * length ms)
+  b-counted K = string-b-length W K ∙ ap (count (inFamily K W)) (word-length ms w)
+
   b-long : (K : Family) → length (B K) ≡ bitsB K z
-  b-long round = string-b-length W round ∙ ap (count (inFamily round W)) (word-length ms w) ∙ Z .rounds
-  b-long square =
-      let f = string-b-length W square ∙ ap (count (inFamily square W)) (word-length ms w) in
-      omega (arith, f, families-all W (2 * length ms), Z .rounds, Z .least, Z .most)
+  b-long round = b-counted round ∙ Z .rounds
+  b-long square = omega (arith, b-counted square, families-all W (2 * length ms), Z .rounds, Z .least, Z .most)
 
   pub word-lengths : Lengths z W
   word-lengths =
@@ -105,76 +107,72 @@ module _ (ms w : List ℕ) (n : ℕ) (L : Legible ms w) (Z : Sized n ms w) where
         blank-two : (i : ℕ) → header ≤ i → i < header + a + b + c → getD s2 i 0 ≡ 0
         blank-two i l g = h .outside .after i l ∙ Z1 .zero i (omega arith) (omega arith)
 
-        pub map-a : Holds s2 header A 0
-        map-a = blank-holds s2 header A (omega arith) (omega (arith, a-bytes, long-two, map-fits)) (λ i l k. blank-two i l (omega (arith, a-bytes)))
+        pub map-strung : Strung ms w (header + a) (header + a + b) 0 0 s2
+        map-strung =
+            let none : (K : Family) → count (inFamily K W) 0 ≡ 0 = λ K. count-zero (inFamily K W) in
+            record {
+              a-held = blank-holds s2 header A (omega arith) (omega (arith, a-bytes, long-two, map-fits)) (λ i l k. blank-two i l (omega (arith, a-bytes)));
+              b-held =
+                  rw (none round)
+                  (blank-holds s2 (header + a) (B round) (omega (arith, short)) (omega (arith, b-bytes, long-two, map-fits))
+                  (λ i l k. blank-two i (omega arith) (omega (arith, b-bytes))));
+              c-held =
+                  rw (none square)
+                  (blank-holds s2 (header + a + b) (B square) (omega (arith, short)) (omega (arith, s-bytes, long-two, map-fits))
+                  (λ i l k. blank-two i (omega arith) (omega (arith, s-bytes))));
+              b-later = omega (arith, a-bytes);
+              c-later = omega (arith, b-bytes);
+            }
 
-        module _ (s3 : List ℕ) (FA : Filled header A s2 s3) where
-          blank-three : (i : ℕ) → header + a ≤ i → i < header + a + b + c → getD s3 i 0 ≡ 0
-          blank-three i l k = FA .outside .after i (omega (arith, a-bytes)) ∙ blank-two i (omega arith) k
+        module _ (s3 : List ℕ) (G : Grown ms w (header + a) (header + a + b) (2 * length ms) s2 s3) where
+          long-three : length s3 ≡ length s0
+          long-three = G .outside .same-length ∙ long-two
 
-          pub map-b : Holds s3 (header + a) (B round) 0
-          map-b =
-              blank-holds s3 (header + a) (B round) (omega (arith, short))
-              (omega (arith, b-bytes, FA .outside .same-length, long-two, map-fits))
-              (λ i l k. blank-three i l (omega (arith, b-bytes)))
+          a-whole : Holds s3 header A (length A)
+          a-whole = rw (word-lengths .a) (G .strung .a-held)
 
-          module _ (s4 : List ℕ) (FB : Filled (header + a) (B round) s3 s4) where
-            pub map-s : Holds s4 (header + a + b) (B square) 0
-            map-s =
-                blank-holds s4 (header + a + b) (B square) (omega (arith, short))
-                (omega (arith, s-bytes, FB .outside .same-length, FA .outside .same-length, long-two, map-fits))
-                (λ i l k. FB .outside .after i (omega (arith, b-bytes)) ∙ blank-three i (omega arith) (omega (arith, s-bytes)))
+          b-whole : Holds s3 (header + a) (B round) (length (B round))
+          b-whole = rw (b-counted round) (G .strung .b-held)
 
-            module _ (s5 : List ℕ) (FS : Filled (header + a + b) (B square) s4 s5) where
-              long-five : length s5 ≡ length s0
-              long-five = FS .outside .same-length ∙ FB .outside .same-length ∙ FA .outside .same-length ∙ long-two
+          s-whole : Holds s3 (header + a + b) (B square) (length (B square))
+          s-whole = rw (b-counted square) (G .strung .c-held)
 
-              a-still : Holds s5 header A (length A)
-              a-still =
-                  holds-kept s3 header A (length A) (FA .holds) s5 (FS .outside .same-length ∙ FB .outside .same-length)
-                  (λ i l k. FS .outside .before i (omega (arith, a-bytes)) ∙ FB .outside .before i (omega (arith, a-bytes)))
+          beyond : k ≡ header + a + b + c → drop (header + a + b + c) s3 ≡ drop (header + a + b + c) s0
+          beyond q =
+              let e = header + a + b + c in
+              ext-getD 0 (drop e s3) (drop e s0) (length-drop e s3 ∙ ap (λ x. x - e) long-three ∙ sym (length-drop e s0))
+              (λ i l.
+              getD-drop e s3 i 0
+              ∙ G .outside .after (e + i) (omega (arith, s-bytes))
+              ∙ h .outside .after (e + i) (omega arith)
+              ∙ Z1 .outside .after (e + i) (omega arith)
+              ∙ sym (getD-drop e s0 i 0))
 
-              b-still : Holds s5 (header + a) (B round) (length (B round))
-              b-still = holds-kept s4 (header + a) (B round) (length (B round)) (FB .holds) s5 (FS .outside .same-length) (λ i l k. FS .outside .before i (omega (arith, b-bytes)))
+          front : (i : ℕ) → i < header → getD s3 i 0 ≡ getD s2 i 0
+          front i l = G .outside .before i l
 
-              beyond : k ≡ header + a + b + c → drop (header + a + b + c) s5 ≡ drop (header + a + b + c) s0
-              beyond q =
-                  let e = header + a + b + c in
-                  ext-getD 0 (drop e s5) (drop e s0) (length-drop e s5 ∙ ap (λ x. x - e) long-five ∙ sym (length-drop e s0))
-                  (λ i l.
-                  getD-drop e s5 i 0
-                  ∙ FS .outside .after (e + i) (omega (arith, s-bytes))
-                  ∙ FB .outside .after (e + i) (omega (arith, b-bytes))
-                  ∙ FA .outside .after (e + i) (omega (arith, a-bytes))
-                  ∙ h .outside .after (e + i) (omega arith)
-                  ∙ Z1 .outside .after (e + i) (omega arith)
-                  ∙ sym (getD-drop e s0 i 0))
-
-              front : (i : ℕ) → i < header → getD s5 i 0 ≡ getD s2 i 0
-              front i l = FS .outside .before i (omega arith) ∙ FB .outside .before i (omega arith) ∙ FA .outside .before i l
-
-              pub map-written : k ≡ header + a + b + c → y ≡ length ms → x ≡ n → s5 ≡ mapBytes z W ++ drop (length (mapBytes z W)) s0
-              unfolding mapBytes
-              map-written ends ym xn =
-                  let e = header + a + b + c in
-                  let x0 : getD s5 0 0 ≡ length ms % 256 = front 0 (omega arith) ∙ h .m-low ∙ ap (λ v. v % 256) ym in
-                  let x1 : getD s5 1 0 ≡ length ms / 256 % 256 = front 1 (omega arith) ∙ h .m-high ∙ ap (λ v. v / 256 % 256) ym in
-                  let x2 : getD s5 2 0 ≡ n % 256 = front 2 (omega arith) ∙ h .n-low ∙ ap (λ v. v % 256) xn in
-                  let x3 : getD s5 3 0 ≡ n / 256 % 256 = front 3 (omega arith) ∙ h .n-high ∙ ap (λ v. v / 256 % 256) xn in
-                  let rest : drop 4 s5 ≡ bytesOf A ++ (bytesOf (B round) ++ (bytesOf (B square) ++ drop e s0))
-                  = split-part s5 header A a (string-a-bits W) a-still a-bytes
-                  ∙ ap (λ t. bytesOf A ++ t)
-                  (split-part s5 (header + a) (B round) b (string-b-bits W round) b-still b-bytes
-                  ∙ ap (λ t. bytesOf (B round) ++ t)
-                  (split-part s5 (header + a + b) (B square) c (string-b-bits W square) (FS .holds) s-bytes ∙ ap (λ t. bytesOf (B square) ++ t) (beyond ends))) in
-                  let grouped : (P Q R d : List ℕ) → P ++ (Q ++ (R ++ d)) ≡ (P ++ (Q ++ R)) ++ d = λ P Q R d. simp append-assoc in
-                  let whole : (x y u v : ℕ) (t : List ℕ) → getD s5 0 0 ≡ x → getD s5 1 0 ≡ y → getD s5 2 0 ≡ u → getD s5 3 0 ≡ v → drop 4 s5 ≡ t
-                  → s5 ≡ x ∷ y ∷ u ∷ v ∷ t
-                  = λ x y u v t p q r o d. four-first s5 (omega (arith, long-five, room)) ∙ rw (p, q, r, o, d) in
-                  whole (length ms % 256) (length ms / 256 % 256) (n % 256) (n / 256 % 256)
-                  (bytesOf A ++ (bytesOf (B round) ++ (bytesOf (B square) ++ drop e s0))) x0 x1 x2 x3 rest
-                  ∙ ap (λ t. length ms % 256 ∷ length ms / 256 % 256 ∷ n % 256 ∷ n / 256 % 256 ∷ t)
-                  (grouped (bytesOf A) (bytesOf (B round)) (bytesOf (B square)) (drop e s0))
-                  ∙ ap (λ k. mapBytes z W ++ drop k s0) map-long
+          pub map-written : k ≡ header + a + b + c → y ≡ length ms → x ≡ n → s3 ≡ mapBytes z W ++ drop (length (mapBytes z W)) s0
+          unfolding mapBytes
+          map-written ends ym xn =
+              let e = header + a + b + c in
+              let x0 : getD s3 0 0 ≡ length ms % 256 = front 0 (omega arith) ∙ h .m-low ∙ ap (λ v. v % 256) ym in
+              let x1 : getD s3 1 0 ≡ length ms / 256 % 256 = front 1 (omega arith) ∙ h .m-high ∙ ap (λ v. v / 256 % 256) ym in
+              let x2 : getD s3 2 0 ≡ n % 256 = front 2 (omega arith) ∙ h .n-low ∙ ap (λ v. v % 256) xn in
+              let x3 : getD s3 3 0 ≡ n / 256 % 256 = front 3 (omega arith) ∙ h .n-high ∙ ap (λ v. v / 256 % 256) xn in
+              let rest : drop 4 s3 ≡ bytesOf A ++ (bytesOf (B round) ++ (bytesOf (B square) ++ drop e s0))
+              = split-part s3 header A a (string-a-bits W) a-whole a-bytes
+              ∙ ap (λ t. bytesOf A ++ t)
+              (split-part s3 (header + a) (B round) b (string-b-bits W round) b-whole b-bytes
+              ∙ ap (λ t. bytesOf (B round) ++ t)
+              (split-part s3 (header + a + b) (B square) c (string-b-bits W square) s-whole s-bytes ∙ ap (λ t. bytesOf (B square) ++ t) (beyond ends))) in
+              let grouped : (P Q R d : List ℕ) → P ++ (Q ++ (R ++ d)) ≡ (P ++ (Q ++ R)) ++ d = λ P Q R d. simp append-assoc in
+              let whole : (x y u v : ℕ) (t : List ℕ) → getD s3 0 0 ≡ x → getD s3 1 0 ≡ y → getD s3 2 0 ≡ u → getD s3 3 0 ≡ v → drop 4 s3 ≡ t
+              → s3 ≡ x ∷ y ∷ u ∷ v ∷ t
+              = λ x y u v t p q r o d. four-first s3 (omega (arith, long-three, room)) ∙ rw (p, q, r, o, d) in
+              whole (length ms % 256) (length ms / 256 % 256) (n % 256) (n / 256 % 256)
+              (bytesOf A ++ (bytesOf (B round) ++ (bytesOf (B square) ++ drop e s0))) x0 x1 x2 x3 rest
+              ∙ ap (λ t. length ms % 256 ∷ length ms / 256 % 256 ∷ n % 256 ∷ n / 256 % 256 ∷ t)
+              (grouped (bytesOf A) (bytesOf (B round)) (bytesOf (B square)) (drop e s0))
+              ∙ ap (λ k. mapBytes z W ++ drop k s0) map-long
 
 pub ruleset far-all = (map-whole, map-fits)

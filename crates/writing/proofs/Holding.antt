@@ -5,11 +5,13 @@
 -- zeroing-..       == the first bytes made 0, one after another
 -- blank-holds      == zeroed bytes hold no bits yet
 -- holds-more       == one bit more
+-- holds-beside     == what is held stays where a bit of another byte is set
 -- holds-kept       == what is held stays where other bytes change
 -- holds-part       == bytes that hold all bits are the bytes of the bits
+-- outside-bit, outside-then == a bit set within a part; one change after another
 -- Assumes nothing.
 use mathlib.Core.Path.{_≡_, refl, sym, ap, _∙_}
-use mathlib.Core.Logic.{inl, inr}
+use mathlib.Core.Logic.{_≢_, inl, inr}
 use mathlib.Core.Bool.{Bool}
 use mathlib.Core.List.{List}
 use Prim.Native.Nat.{ℕ, _+_, _*_, _/_, _%_, _^_, _<_, _≤_}
@@ -21,7 +23,7 @@ use lib.Seq.{getD-set-same, getD-set-other, getD-take, getD-drop}
 use Rattle.count.specs.Below.{pick}
 use Rattle.count.proofs.Logic.{same-or-not, lt-or-ge}
 use Rattle.bits.specs.Strings.{bit, bytesFor}
-use Rattle.bits.specs.Writes.{setBit}
+use Rattle.bits.specs.Writes.{withBit, setBit}
 use Rattle.bits.proofs.Laws.{bit-past}
 use Rattle.bits.proofs.Stores.{set-bit-length, set-bit-here, set-bit-other, set-bit-small}
 use Rattle.format.specs.Bytes.{longest, header, bytesOf}
@@ -162,6 +164,24 @@ module _ (s : List ℕ) (at : ℕ) (bits : List ℕ) (k : ℕ) (H : Holds s at b
         off = λ j l h. there j h ∙ H .off j l h;
         small = λ i l h. omega (arith, same i l h, H .small i l h);
       }
+
+  pub holds-beside : (i : ℕ) (v : Bool) → ((j : ℕ) → at ≤ j → j < at + bytesFor (length bits) → j ≢ i / 8) → Holds (setBit s i v) at bits k
+  unfolding setBit
+  holds-beside i v other =
+      holds-kept (setBit s i v) (set-bit-length s i v)
+      (λ j l h. getD-set-other s (i / 8) j (withBit (getD s (i / 8) 0) (i % 8) v) 0 (other j l h))
+
+pub outside-bit : (a e : ℕ) (old s : List ℕ) (i : ℕ) (v : Bool) → Outside a e old s → a ≤ i / 8 → i / 8 < e → Outside a e old (setBit s i v)
+unfolding setBit
+outside-bit a e old s i v O l h = outside-set a e old s (i / 8) (withBit (getD s (i / 8) 0) (i % 8) v) O l h
+
+pub outside-then : (a e : ℕ) (old s u : List ℕ) → Outside a e old s → Outside a e s u → Outside a e old u
+outside-then a e old s u O P =
+    record {
+      same-length = P .same-length ∙ O .same-length;
+      before = λ i l. P .before i l ∙ O .before i l;
+      after = λ i l. P .after i l ∙ O .after i l;
+    }
 
 bit-in : (p : List ℕ) (i : ℕ) → bit p i ≡ getD p (i / 8) 0 / 2 ^ (i % 8) % 2
 unfolding bit

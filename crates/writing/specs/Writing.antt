@@ -5,7 +5,10 @@
 -- Legible ms w     == the chart w has an end and a flag for each of the 2m positions
 -- Sized n ms w     == its word has 2n - 2 round letters, and n is 1 to m + 1
 -- Holds s at bits k == from byte `at` on s holds the first k of the bits, then zeros, in as many bytes as all the bits take
--- Filled at bits old new == new is old, but holds all the bits from byte `at` on
+-- letters K ms w p == how many of the first p positions are of family K
+-- Strung ms w b c p q s == A stands in s after the header, B from byte b on, B* from byte c on, none over another: A has the bits of
+--                     the first p positions, B and B* those of the first q, and zeros follow
+-- Grown ms w b c p old new == new is old, but has so the bits of the first p positions
 -- Headed m n old new == new is old with m and n for its first four bytes
 -- Assumes nothing.
 use mathlib.Core.Path.{_≡_}
@@ -14,11 +17,12 @@ use Prim.Native.Nat.{ℕ, _+_, _-_, _*_, _/_, _%_, _<_, _≤_}
 use lib.Dec.{eqb}
 use lib.ListN.{length, getD}
 use Rattle.count.specs.Below.{pick, count}
+use Rattle.words.specs.declared.family.Family.{Family}
 use Rattle.words.specs.declared.family.Family.the-variants.{Round as round, Square as square}
 use Rattle.words.specs.Word.{sameFamily, Word}
 use Rattle.bits.specs.Strings.{bit, bytesFor}
 use Rattle.drawing.specs.Drawing.{mostBorders, border}
-use Rattle.format.specs.Bytes.{longest, header, mapBytes}
+use Rattle.format.specs.Bytes.{longest, header, stringA, stringB, mapBytes}
 use Rattle.touring.specs.Working.{Outside, tourIn, borderIn}
 
 unfoldable pub wordAt : List ℕ → List ℕ → Word
@@ -53,9 +57,19 @@ pub record Holds (s : List ℕ) (at : ℕ) (bits : List ℕ) (k : ℕ) : Type 0 
   pub off : (j : ℕ) → k ≤ j → j < 8 * bytesFor (length bits) → bit s (8 * at + j) ≡ 0
   pub small : (i : ℕ) → at ≤ i → i < at + bytesFor (length bits) → getD s i 0 < 256
 
-pub record Filled (at : ℕ) (bits old new : List ℕ) : Type 0 where
-  pub holds : Holds new at bits (length bits)
-  pub outside : Outside at (at + bytesFor (length bits)) old new
+abbrev pub letters : Family → List ℕ → List ℕ → ℕ → ℕ
+letters K ms w p = count (λ q. sameFamily K (wordAt ms w .letter q .family)) p
+
+pub record Strung (ms w : List ℕ) (b c p q : ℕ) (s : List ℕ) : Type 0 where
+  pub a-held : Holds s header (stringA (wordAt ms w)) p
+  pub b-held : Holds s b (stringB round (wordAt ms w)) (letters round ms w q)
+  pub c-held : Holds s c (stringB square (wordAt ms w)) (letters square ms w q)
+  pub b-later : header + bytesFor (length (stringA (wordAt ms w))) ≤ b
+  pub c-later : b + bytesFor (length (stringB round (wordAt ms w))) ≤ c
+
+pub record Grown (ms w : List ℕ) (b c p : ℕ) (old new : List ℕ) : Type 0 where
+  pub strung : Strung ms w b c p p new
+  pub outside : Outside header (c + bytesFor (length (stringB square (wordAt ms w)))) old new
 
 pub record Headed (m n : ℕ) (old new : List ℕ) : Type 0 where
   pub m-low : getD new 0 0 ≡ m % 256

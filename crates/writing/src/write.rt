@@ -2,16 +2,16 @@
 use bits::bytes_for;
 use format::HEADER;
 use touring::border_in;
-use words::Family;
 ghost use mathlib.Core.Path.{_≡_};
 ghost use Prim.Native.Nat.{_+_, _*_, _<_, _≤_};
 ghost use lib.ListN.{length};
+ghost use Rattle.count.specs.Below.{pick};
 ghost use Rattle.words.specs.Word.{sameFamily};
-ghost use Rattle.bits.specs.Strings.{bytesFor};
+ghost use Rattle.words.specs.declared.family.Family.the-variants.{Round as round};
 ghost use Rattle.drawing.specs.Laid.{laid};
-ghost use Rattle.format.specs.Bytes.{longest, header, stringA, stringB};
-ghost use Rattle.touring.specs.Working.{Outside, Zeroed};
-ghost use Rattle.writing.specs.Writing.{wordAt, chartBytes, Legible, Sized, Holds, Filled, Headed};
+ghost use Rattle.format.specs.Bytes.{longest, header};
+ghost use Rattle.touring.specs.Working.{Zeroed};
+ghost use Rattle.writing.specs.Writing.{wordAt, letters, chartBytes, Legible, Sized, Headed, Strung, Grown};
 
 // Writes the map of the chart in `work`, with n points. Its length.
 pub fn write_map(marks: &[u8], n: usize, work: &[u16], out: &mut [u8]) -> usize
@@ -25,9 +25,7 @@ pub fn write_map(marks: &[u8], n: usize, work: &[u16], out: &mut [u8]) -> usize
     let end = at_s + bytes_for(2 * (m + 1 - n));
     zero(out, end);
     write_header(out, m, n);
-    write_a(marks, work, out);
-    write_b(marks, work, out, at_b, Family::Round);
-    write_b(marks, work, out, at_s, Family::Square);
+    write_strings(marks, work, out, at_b, at_s);
     end
 }
 
@@ -54,46 +52,54 @@ fn write_header(out: &mut [u8], m: usize, n: usize)
     out[3] = (n / 256 % 256) as u8;
 }
 
-// A: a bit for each position, 1 if its border is marked.
-fn write_a(marks: &[u8], work: &[u16], out: &mut [u8])
-    requires { ⌜ Legible (now marks) (now work) × Holds (now out) header (stringA (wordAt (now marks) (now work))) 0 ⌝ }
-    ensures { λ _. ⌜ Filled header (stringA (wordAt (now (marks .entry)) (now (work .entry))))
+// A, and from bytes b and c on B and B*, in one pass over the positions.
+fn write_strings(marks: &[u8], work: &[u16], out: &mut [u8], b: usize, c: usize)
+    requires { ⌜ Legible (now marks) (now work) × Strung (now marks) (now work) b c 0 0 (now out) ⌝ }
+    ensures { λ _. ⌜ Grown (now (marks .entry)) (now (work .entry)) b c (2 * length (now (marks .entry)))
         (now (out .entry)) (now (out .exit)) ⌝ }
 {
     let mut p = 0;
+    let mut rounds = 0;
     while p < 2 * marks.len() {
-        bits::set_bit(out, 8 * HEADER + p, is_of(marks, work, p, Family::Round));
+        rounds = write_letter(marks, work, out, b, c, p, rounds);
         p += 1;
     }
 }
 
-// B, or B*, from byte `at` on: for each position of the family, whether it is a second place.
-fn write_b(marks: &[u8], work: &[u16], out: &mut [u8], at: usize, family: Family)
-    requires { ⌜ Legible (now marks) (now work)
-        × Holds (now out) at (stringB family (wordAt (now marks) (now work))) 0 ⌝ }
-    ensures { λ _. ⌜ Filled at (stringB family (wordAt (now (marks .entry)) (now (work .entry))))
-        (now (out .entry)) (now (out .exit)) ⌝ }
+// The letter at position p, after so many round ones: its family to A, whether it is a second place to B or B*. How many are
+// round with it. What is written where is chosen by numbers and not by a jump, which random families would make slow.
+fn write_letter(
+    marks: &[u8],
+    work: &[u16],
+    out: &mut [u8],
+    b: usize,
+    c: usize,
+    p: usize,
+    rounds: usize,
+) -> usize
+    requires { ⌜ Legible (now marks) (now work) × Strung (now marks) (now work) b c p p (now out)
+        × (p < 2 * length (now marks)) × (rounds ≡ letters round (now marks) (now work) p) ⌝ }
+    ensures { λ r. ⌜ r ≡ letters round (now (marks .entry)) (now (work .entry)) (p + 1) ⌝ }
+    ensures { λ _. ⌜ Grown (now (marks .entry)) (now (work .entry)) b c (p + 1) (now (out .entry)) (now (out .exit)) ⌝ }
 {
+    let marked = is_round(marks, work, p);
+    bits::set_bit(out, 8 * HEADER + p, marked);
     let places = 2 * marks.len();
-    let mut p = 0;
-    let mut j: usize = 0;
-    while p < places {
-        if is_of(marks, work, p, family) {
-            bits::set_bit(out, 8 * at + j, work[places + p] == 1);
-            j += 1;
-        }
-        p += 1;
-    }
+    let at = chosen(marked, 8 * b + rounds, 8 * c + (p - rounds));
+    bits::set_bit(out, at, work[places + p] == 1);
+    chosen(marked, rounds + 1, rounds)
 }
 
-// Whether the letter at position p is of the family: a marked border's is round, any other square.
-fn is_of(marks: &[u8], work: &[u16], p: usize, family: Family) -> bool
+// Whether the letter at position p is round: its border is marked.
+fn is_round(marks: &[u8], work: &[u16], p: usize) -> bool
     requires { ⌜ Legible (now marks) (now work) × (p < 2 * length (now marks)) ⌝ }
-    ensures { λ r. ⌜ r ≡ sameFamily family (wordAt (now (marks .entry)) (now (work .entry)) .letter p .family) ⌝ }
+    ensures { λ r. ⌜ r ≡ sameFamily round (wordAt (now (marks .entry)) (now (work .entry)) .letter p .family) ⌝ }
 {
-    let marked = marks[border_in(work, p)] == 1;
-    match family {
-        Family::Round => marked,
-        Family::Square => !marked,
-    }
+    marks[border_in(work, p)] == 1
+}
+
+fn chosen(v: bool, a: usize, b: usize) -> usize
+    ensures { λ r. ⌜ r ≡ pick v a b ⌝ }
+{
+    if v { a } else { b }
 }

@@ -1,5 +1,5 @@
 -- `map::moves::turn_back_from` meets its contract. Assumes nothing.
-use Rattle.map.proofs.Turns.{back-start, back-opened, back-on}
+use Rattle.walking.proofs.Turns.{back-start}
 use borrow.Author.Needs.{needs}
 use Rattle.map.proofs.moves.turn_back_from.Statement.{statement}
 use Rattle.map.proofs.moves.turn_back_from.Tie as tie
@@ -13,15 +13,12 @@ sub-mate-at c = search needs
 mate-at-requires : tie.Need-mate-at-requires
 mate-at-requires c κs = search needs
 
-add-result : tie.Need-add-result
-add-result c = search needs
+turn-back-past-requires : tie.Need-turn-back-past-requires
+turn-back-past-requires c κs = search needs
 
 returns-2 : tie.Need-returns-2
-returns-2 c = search back-on
-
-returns-3 : tie.Need-returns-3
-returns-3 c = search back-opened
+returns-2 c = search needs
 
 pub turn-back-from-spec : {M : Type 1} → statement M
 turn-back-from-spec =
-    tie.close (tie.spec returns sub-mate-at mate-at-requires add-result returns-2 returns-3)
+    tie.close (tie.spec returns sub-mate-at mate-at-requires turn-back-past-requires returns-2)

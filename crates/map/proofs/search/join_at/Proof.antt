@@ -1,5 +1,5 @@
 -- `map::search::join_at` meets its contract. Assumes nothing.
-use Rattle.map.proofs.Joins.{join-empty, join-full}
+use Rattle.map.proofs.Joins.{join-empty, join-start, join-full}
 use borrow.Author.Needs.{needs}
 use Rattle.map.proofs.search.join_at.Statement.{statement}
 use Rattle.map.proofs.search.join_at.Tie as tie
@@ -16,19 +16,11 @@ size-at-requires c κs = search needs
 first-at-requires : tie.Need-first-at-requires
 first-at-requires c κs = search needs
 
-join-from-requires : tie.Need-join-from-requires
-join-from-requires c κs = search needs
+join-about-requires : tie.Need-join-about-requires
+join-about-requires c κs = search join-start
 
 returns-2 : tie.Need-returns-2
 returns-2 c = search join-full
 
 pub join-at-spec : {M : Type 1} → statement M
-join-at-spec =
-    tie.close
-    (tie.spec
-    bits-a-requires
-    returns
-    size-at-requires
-    first-at-requires
-    join-from-requires
-    returns-2)
+join-at-spec = tie.close (tie.spec bits-a-requires returns size-at-requires first-at-requires join-about-requires returns-2)

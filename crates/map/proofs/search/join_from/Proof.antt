@@ -1,29 +1,38 @@
 -- `map::search::join_from` meets its contract. The loop keeps `Joining`: the rest of the search answers what the whole search answers. Assumes nothing.
-use Rattle.map.proofs.Joins.{Joining, joining-start, joining-on, joining-here, joining-none}
+use Rattle.map.proofs.Joins.{Joining, joining-start, joining-on, joining-here, joining-end, joining-back, joining-more}
 use borrow.Author.Needs.{needs}
 use Rattle.map.proofs.search.join_from.Statement.{statement}
 use Rattle.map.proofs.search.join_from.Tie as tie
 
 abbrev Inv-loop : tie.InvT-loop
-Inv-loop map k f to p₀ left₀ p left = Joining map to k f p left
+Inv-loop map mates points most f a n to p₀ left₀ p left = Joining map to f most p left
 
 abbrev μ-loop : tie.MeasureT-loop
-μ-loop map k f to p₀ left₀ p left = left
+μ-loop map mates points most f a n to p₀ left₀ p left = left
+
+part-a-requires : tie.Need-part-a-requires Inv-loop μ-loop
+part-a-requires c κs = search needs
+
+bits-a-requires : tie.Need-bits-a-requires Inv-loop μ-loop
+bits-a-requires c κs = search needs
 
 loop-holds : tie.Need-loop-holds Inv-loop μ-loop
 loop-holds c = search joining-start
 
-crossing-at-requires : tie.Need-crossing-at-requires Inv-loop μ-loop
-crossing-at-requires c κs = search
-
-point-of-requires : tie.Need-point-of-requires Inv-loop μ-loop
-point-of-requires c κs = search needs
-
 add-found : tie.Need-add-found Inv-loop μ-loop
 add-found c = search needs
 
-step-at-requires : tie.Need-step-at-requires Inv-loop μ-loop
-step-at-requires c κs = search needs
+crossing-in-requires : tie.Need-crossing-in-requires Inv-loop μ-loop
+crossing-in-requires c κs = search needs
+
+point-in-requires : tie.Need-point-in-requires Inv-loop μ-loop
+point-in-requires c κs = search needs
+
+add-found-2 : tie.Need-add-found-2 Inv-loop μ-loop
+add-found-2 c = search needs
+
+turned-requires : tie.Need-turned-requires Inv-loop μ-loop
+turned-requires c κs = search needs
 
 sub-left : tie.Need-sub-left Inv-loop μ-loop
 sub-left c = search needs
@@ -35,10 +44,16 @@ loop-again : tie.Need-loop-again Inv-loop μ-loop
 loop-again c = search joining-on
 
 returns : tie.Need-returns Inv-loop μ-loop
-returns c = search joining-none
+returns c = search joining-more
 
 returns-2 : tie.Need-returns-2 Inv-loop μ-loop
 returns-2 c = search joining-here
+
+returns-3 : tie.Need-returns-3 Inv-loop μ-loop
+returns-3 c = search joining-back
+
+returns-4 : tie.Need-returns-4 Inv-loop μ-loop
+returns-4 c = search joining-end
 
 pub join-from-spec : {M : Type 1} → statement M
 join-from-spec =
@@ -46,13 +61,18 @@ join-from-spec =
     (tie.spec
     Inv-loop
     μ-loop
+    part-a-requires
+    bits-a-requires
     loop-holds
-    crossing-at-requires
-    point-of-requires
     add-found
-    step-at-requires
+    crossing-in-requires
+    point-in-requires
+    add-found-2
+    turned-requires
     sub-left
     loop-less
     loop-again
     returns
-    returns-2)
+    returns-2
+    returns-3
+    returns-4)

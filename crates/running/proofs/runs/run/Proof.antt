@@ -8,10 +8,10 @@ use Rattle.running.proofs.runs.run.Statement.{statement}
 use Rattle.running.proofs.runs.run.Tie as tie
 
 abbrev Inv-loop : tie.InvT-loop
-Inv-loop map first calls statuses₀ answers₀ place₀ i₀ statuses answers place i = Running map first calls statuses₀ answers₀ statuses answers place i
+Inv-loop map mates areas points first calls statuses₀ answers₀ place₀ i₀ statuses answers place i = Running map first calls statuses₀ answers₀ statuses answers place i
 
 abbrev μ-loop : tie.MeasureT-loop
-μ-loop map first calls statuses₀ answers₀ place₀ i₀ statuses answers place i = length calls - i
+μ-loop map mates areas points first calls statuses₀ answers₀ place₀ i₀ statuses answers place i = length calls - i
 
 loop-holds : tie.Need-loop-holds Inv-loop μ-loop
 loop-holds c = search running-start

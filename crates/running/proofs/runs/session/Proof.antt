@@ -43,8 +43,8 @@ returns-4 c =
     session-no-call (a .map .now) (a .first) (a .calls .now) (a .statuses .now) (a .answers .now) (r .refusal .result) (r .refusal .ensures .0)
     (e .if1 .left) (omega (arith, f .before .if2 .left)) (omega (arith, f .if3 .left)) (k .are-calls .result) (k .are-calls .ensures) (c .if4 .taken)
 
-run-requires : tie.Need-run-requires
-run-requires c κs = search needs
+run-open-requires : tie.Need-run-open-requires
+run-open-requires c κs = search needs
 
 same-length : tie.Need-same-length
 same-length c = search needs
@@ -63,7 +63,7 @@ returns-5 c =
     let a = r .before .before .before .before .before .args in
     session-answers (a .map .now) (a .first) (a .calls .now) (a .statuses .now) (a .answers .now) (r .refusal .result) (r .refusal .ensures .0)
     (e .if1 .left) (omega (arith, f .before .if2 .left)) (omega (arith, f .if3 .left)) (k .are-calls .result) (k .are-calls .ensures)
-    (n .run .result) _ _ (o .if4 .left) (n .run .ensures .0) (n .run .ensures .1 .0) (n .run .ensures .1 .1)
+    (n .run-open .result) _ _ (o .if4 .left) (n .run-open .ensures)
 
 pub session-spec : {M : Type 1} → statement M
 session-spec =
@@ -75,7 +75,7 @@ session-spec =
     returns-3
     are-calls-requires
     returns-4
-    run-requires
+    run-open-requires
     same-length
     same-length-2
     returns-5)

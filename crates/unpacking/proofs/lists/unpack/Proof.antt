@@ -35,11 +35,8 @@ returns-3 c =
     unpack-short-marks (a .map .now) (a .turning .now) (a .marks .now) (r .refusal .result) (r .refusal .ensures .0)
     (b .borders .result) (b .borders .ensures .0) (b .before .if1 .left) (c .if3 .taken)
 
-write-turning-requires : tie.Need-write-turning-requires
-write-turning-requires c κs = search needs
-
-write-marks-requires : tie.Need-write-marks-requires
-write-marks-requires c κs = search needs
+write-requires : tie.Need-write-requires
+write-requires c κs = search needs
 
 same-length : tie.Need-same-length
 same-length c = search needs
@@ -49,15 +46,14 @@ same-length-2 c = search needs
 
 returns-4 : tie.Need-returns-4
 returns-4 c =
-    let k = c .before .before in
-    let t = k .before .before .before .before in
-    let l = t .before .before in
+    let w = c .before .before .before .before in
+    let l = w .before .before .before in
     let b = l .before .before in
     let r = b .before .before in
     let a = r .before .before .before .before .args in
     unpack-answers (a .map .now) (a .turning .now) (a .marks .now) (r .refusal .result) (r .refusal .ensures .0)
     (b .borders .result) (b .borders .ensures .0) (b .before .if1 .left) _ _ (l .before .if2 .left) (l .if3 .left)
-    (t .write-turning .ensures) (k .write-marks .ensures)
+    (w .write .ensures .0) (w .write .ensures .1)
 
 pub unpack-spec : {M : Type 1} → statement M
 unpack-spec =
@@ -69,8 +65,7 @@ unpack-spec =
     mul-if2
     returns-2
     returns-3
-    write-turning-requires
-    write-marks-requires
+    write-requires
     same-length
     same-length-2
     returns-4)

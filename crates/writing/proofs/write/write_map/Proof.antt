@@ -1,7 +1,7 @@
 -- `writing::write::write_map` meets its contract. Assumes nothing.
 use mathlib.Core.Path.{refl}
 use borrow.Author.Needs.{needs}
-use Rattle.writing.proofs.Assembly.{map-a, map-b, map-s, map-long, map-written, far-all}
+use Rattle.writing.proofs.Assembly.{map-strung, map-long, map-written, far-all}
 use Rattle.writing.proofs.write.write_map.Statement.{statement}
 use Rattle.writing.proofs.write.write_map.Tie as tie
 
@@ -47,32 +47,13 @@ zero-requires c κs = search far-all
 write-header-requires : tie.Need-write-header-requires
 write-header-requires c κs = search needs
 
-write-a-requires : tie.Need-write-a-requires
-write-a-requires c κs =
+write-strings-requires : tie.Need-write-strings-requires
+write-strings-requires c κs =
     let h = c .before .before .before in
     let z = h .before .before .before .before in
     let l = z .before .before in
     let p = l .before .before .before .before .before .before .pre in
-    (p .0, map-a _ _ _ (p .0) (p .1) _ _ _ (l .before .before .bytes-for .ensures .0) (l .before .bytes-for2 .ensures .0) (l .bytes-for3 .ensures .0) _ (p .2) _ _ (z .zero .ensures) (search far-all) _ _ _ (h .write-header .ensures))
-
-write-b-requires : tie.Need-write-b-requires
-write-b-requires c κs =
-    let a = c .before .before .before in
-    let h = a .before .before .before .before in
-    let z = h .before .before .before .before in
-    let l = z .before .before in
-    let p = l .before .before .before .before .before .before .pre in
-    (p .0, map-b _ _ _ (p .0) (p .1) _ _ _ (l .before .before .bytes-for .ensures .0) (l .before .bytes-for2 .ensures .0) (l .bytes-for3 .ensures .0) _ (p .2) _ _ (z .zero .ensures) (search far-all) _ _ _ (h .write-header .ensures) _ (a .write-a .ensures))
-
-write-b-requires-2 : tie.Need-write-b-requires-2
-write-b-requires-2 c κs =
-    let b = c .before .before .before in
-    let a = b .before .before .before .before in
-    let h = a .before .before .before .before in
-    let z = h .before .before .before .before in
-    let l = z .before .before in
-    let p = l .before .before .before .before .before .before .pre in
-    (p .0, map-s _ _ _ (p .0) (p .1) _ _ _ (l .before .before .bytes-for .ensures .0) (l .before .bytes-for2 .ensures .0) (l .bytes-for3 .ensures .0) _ (p .2) _ _ (z .zero .ensures) (search far-all) _ _ _ (h .write-header .ensures) _ (a .write-a .ensures) _ (b .write-b .ensures))
+    (p .0, map-strung _ _ _ (p .0) (p .1) _ _ _ (l .before .before .bytes-for .ensures .0) (l .before .bytes-for2 .ensures .0) (l .bytes-for3 .ensures .0) _ (p .2) _ _ (z .zero .ensures) (search far-all) _ _ _ (h .write-header .ensures))
 
 same-length : tie.Need-same-length
 same-length c = search needs
@@ -80,13 +61,11 @@ same-length c = search needs
 returns : tie.Need-returns
 returns c =
     let s = c .before .before in
-    let b = s .before .before .before .before in
-    let a = b .before .before .before .before in
-    let h = a .before .before .before .before in
+    let h = s .before .before .before .before in
     let z = h .before .before .before .before in
     let l = z .before .before in
     let p = l .before .before .before .before .before .before .pre in
-    (map-long _ _ _ (p .0) (p .1) _ _ _ (l .before .before .bytes-for .ensures .0) (l .before .bytes-for2 .ensures .0) (l .bytes-for3 .ensures .0), map-written _ _ _ (p .0) (p .1) _ _ _ (l .before .before .bytes-for .ensures .0) (l .before .bytes-for2 .ensures .0) (l .bytes-for3 .ensures .0) _ (p .2) _ _ (z .zero .ensures) (search far-all) _ _ _ (h .write-header .ensures) _ (a .write-a .ensures) _ (b .write-b .ensures) _ (s .write-b2 .ensures) refl refl refl)
+    (map-long _ _ _ (p .0) (p .1) _ _ _ (l .before .before .bytes-for .ensures .0) (l .before .bytes-for2 .ensures .0) (l .bytes-for3 .ensures .0), map-written _ _ _ (p .0) (p .1) _ _ _ (l .before .before .bytes-for .ensures .0) (l .before .bytes-for2 .ensures .0) (l .bytes-for3 .ensures .0) _ (p .2) _ _ (z .zero .ensures) (search far-all) _ _ _ (h .write-header .ensures) _ (s .write-strings .ensures) refl refl refl)
 
 pub write-map-spec : {M : Type 1} → statement M
 write-map-spec =
@@ -106,8 +85,6 @@ write-map-spec =
     add-end
     zero-requires
     write-header-requires
-    write-a-requires
-    write-b-requires
-    write-b-requires-2
+    write-strings-requires
     same-length
     returns)

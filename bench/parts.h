@@ -1,0 +1,29 @@
+// What the parts of the bench offer each other: sessions, packing and unpacking. The calls on a map are in bench.cpp.
+#ifndef PARTS_H
+#define PARTS_H
+
+#include <cstddef>
+#include <cstdint>
+#include <vector>
+
+#include "timing.h"
+
+using bytes = std::vector<uint8_t>;
+using maps = std::vector<bytes>;
+
+// Whether pmap and the alternatives give the same, on this map and on damaged copies of it; if not, what differs is printed.
+bool sessions_agree(const bytes &map);
+bool unpacking_agrees(const bytes &map);
+
+// What pmap does, on one map after the other, while they are there: a session of so many calls, packing, unpacking.
+task session_task(const maps &all, size_t calls);
+task pack_task(const maps &all);
+task unpack_task(const maps &all);
+
+// The tables, on every kind of map.
+void show_sessions(size_t m, size_t calls);
+void show_short_sessions();
+void show_packing(size_t m);
+void show_unpacking(size_t m);
+
+#endif

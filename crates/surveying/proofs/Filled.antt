@@ -1,0 +1,45 @@
+-- A list that is filled from its beginning, entry by entry.
+--
+-- Filled f n old p l == of n entries to fill by f, the first p are filled; from p on l is old
+-- filled-start, filled-more, filled-end == before the first, one more, all
+-- Assumes nothing.
+use mathlib.Core.Path.{_≡_, refl, sym, ap, _∙_}
+use mathlib.Core.Logic.{inl, inr}
+use mathlib.Core.List.{List}
+use Prim.Native.Nat.{ℕ, _+_, _<_, _≤_}
+use native.Mathlib.Omega.{arith}
+use lib.ListN.{length, getD, set, length-set}
+use lib.Seq.{getD-set-same, getD-set-other}
+use Rattle.count.specs.Below.{table}
+use Rattle.count.proofs.Logic.{same-or-not}
+use Rattle.drawing.specs.Laid.{laid}
+use Rattle.surveying.proofs.Laws.{laid-table}
+
+module _ (f : ℕ → ℕ) (n : ℕ) (old : List ℕ) where
+  pub record Filled (p : ℕ) (l : List ℕ) : Type 0 where
+    pub room : n ≤ length old
+    pub long : length l ≡ length old
+    pub done : (q : ℕ) → q < p → getD l q 0 ≡ f q
+    pub rest : (q : ℕ) → p ≤ q → getD l q 0 ≡ getD old q 0
+
+  pub filled-start : n ≤ length old → Filled 0 old
+  filled-start r = record { room = r; long = refl; done = λ q l. absurd (omega arith); rest = λ q l. refl }
+
+  module _ (p : ℕ) (l : List ℕ) (F : Filled p l) where
+    pub filled-more : (x : ℕ) → p < n → x ≡ f p → Filled (p + 1) (set l p x)
+    filled-more x i e =
+        let k : p < length l = omega (arith, F .room, F .long) in
+        record {
+          room = F .room;
+          long = length-set l p x ∙ F .long;
+          done = λ q j.
+              elim (same-or-not q p) [
+                | inl c ↦ ap (λ z. getD (set l p x) z 0) c ∙ getD-set-same l p x 0 k ∙ e ∙ ap f (sym c)
+                | inr c ↦ getD-set-other l p q x 0 c ∙ F .done q (omega arith)
+              ];
+          rest = λ q j. getD-set-other l p q x 0 (λ c. omega arith) ∙ F .rest q (omega arith);
+        }
+
+    pub filled-end : n ≡ p → l ≡ laid (table f n) old
+    filled-end e =
+        laid-table f n old l (F .long) (F .room) (λ q i. F .done q (omega arith)) (λ q i. F .rest q (omega arith))

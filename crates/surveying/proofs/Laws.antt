@@ -1,0 +1,94 @@
+-- What a caller knows of the lists that the pass has filled.
+--
+-- laid-table      == a list that has f below n, and is as before from n on, is the table of f laid on what it was
+-- mates-are, numbers-are == a list that was laid out so has each place's mate, each place's number
+-- listed-size     == the degree of a point (the sides of an area): how many entries have its number
+-- listed-first    == its first position: the first entry that has its number
+-- listed-across   == the area (the point) across a place: the number at its mate
+-- In turning order, or along the area's walk, its positions come in rising order (`walk-rises`, `walk-returns` of `words`).
+-- Assumes nothing.
+use mathlib.Core.Path.{_≡_, sym, ap, _∙_}
+use mathlib.Core.Logic.{inl, inr}
+use mathlib.Core.List.{List}
+use Prim.Native.Nat.{ℕ, _+_, _-_, _<_, _≤_}
+use native.Mathlib.Omega.{arith}
+use lib.Dec.{eqb}
+use lib.ListN.{length, getD, drop, length-append, length-drop, List·getD-append}
+use lib.Seq.{getD-append-add, getD-drop, ext-getD}
+use Rattle.count.specs.Below.{count, find, table}
+use Rattle.count.proofs.Logic.{lt-or-ge}
+use Rattle.count.proofs.Below.{count-same}
+use Rattle.count.proofs.Search.{find-same}
+use Rattle.count.proofs.Lists.{table-length, table-getD}
+use Rattle.words.specs.Brackets.{number, first, size}
+use Rattle.words.specs.declared.family.Family.{Family}
+use Rattle.words.specs.Word.{seen, crossing}
+use Rattle.words.proofs.Crossing.{crossing-below}
+use Rattle.drawing.specs.Laid.{laid}
+use Rattle.format.specs.Bytes.{sizeIn, bitsA, wordIn}
+use Rattle.format.specs.Open.{openRefusal}
+use Rattle.walking.proofs.Decoded.{nested}
+use Rattle.surveying.specs.Surveyed.{matesIn, numbersIn, Mates, Numbers}
+
+module _ (f : ℕ → ℕ) (n : ℕ) (old : List ℕ) where
+  pub laid-here : (p : ℕ) → p < n → getD (laid (table f n) old) p 0 ≡ f p
+  laid-here p l =
+      List·getD-append (table f n) (drop (length (table f n)) old) 0 p (omega (arith, table-length f n)) ∙ table-getD f n p 0 l
+
+  laid-length : n ≤ length old → length (laid (table f n) old) ≡ length old
+  laid-length r =
+      omega (arith, table-length f n, length-append (table f n) (drop (length (table f n)) old), length-drop (length (table f n)) old)
+
+  pub laid-table : (l : List ℕ) → length l ≡ length old → n ≤ length old → ((p : ℕ) → p < n → getD l p 0 ≡ f p)
+      → ((p : ℕ) → n ≤ p → getD l p 0 ≡ getD old p 0) → l ≡ laid (table f n) old
+  laid-table l e r h g =
+      ext-getD 0 l (laid (table f n) old) (e ∙ sym (laid-length r))
+      (λ x i.
+      elim (lt-or-ge x n) [
+        | inl c ↦ h x c ∙ sym (laid-here x c)
+        | inr c ↦
+            let t : length (table f n) ≡ n = table-length f n in
+            let k : length (table f n) + (x - n) ≡ x = omega arith in
+            g x c
+            ∙ sym (ap (λ z. getD (laid (table f n) old) z 0) (sym k)
+            ∙ getD-append-add (table f n) (drop (length (table f n)) old) (x - n) 0
+            ∙ getD-drop (length (table f n)) old (x - n) 0
+            ∙ ap (λ z. getD old z 0) k)
+      ])
+
+module _ (s l old : List ℕ) where
+  pub mates-are : l ≡ laid (matesIn s) old → Mates s l
+  unfolding matesIn
+  mates-are e =
+      let f : ℕ → ℕ = crossing (wordIn s) in
+      let n : ℕ = bitsA (sizeIn s) in
+      rw e (record { at = λ p i j. laid-here f n old p i })
+
+  pub numbers-are : (K : Family) → l ≡ laid (numbersIn K s) old → Numbers K s l
+  unfolding numbersIn
+  numbers-are K e =
+      let f : ℕ → ℕ = number (seen K (wordIn s)) in
+      let n : ℕ = bitsA (sizeIn s) in
+      rw e (record { at = λ p i j. laid-here f n old p i })
+
+module _ (s l : List ℕ) (K : Family) (N : Numbers K s l) (r : bitsA (sizeIn s) ≤ length l) where
+  same-test : (k p : ℕ) → p < bitsA (sizeIn s) → eqb (number (seen K (wordIn s)) p) k ≡ eqb (getD l p 0) k
+  same-test k p i = ap (λ x. eqb x k) (sym (N .at p i (omega arith)))
+
+  pub listed-size : (k : ℕ) → size (seen K (wordIn s)) (bitsA (sizeIn s)) k ≡ count (λ p. eqb (getD l p 0) k) (bitsA (sizeIn s))
+  unfolding size
+  listed-size k =
+      count-same (λ p. eqb (number (seen K (wordIn s)) p) k) (λ p. eqb (getD l p 0) k) (bitsA (sizeIn s)) (same-test k)
+
+  pub listed-first : (k : ℕ) → first (seen K (wordIn s)) (bitsA (sizeIn s)) k ≡ find (λ p. eqb (getD l p 0) k) (bitsA (sizeIn s))
+  unfolding first
+  listed-first k =
+      find-same (λ p. eqb (number (seen K (wordIn s)) p) k) (λ p. eqb (getD l p 0) k) (bitsA (sizeIn s)) (same-test k)
+
+  pub listed-across : (m : List ℕ) (p : ℕ) → openRefusal s ≡ 0 → Mates s m → bitsA (sizeIn s) ≤ length m → p < bitsA (sizeIn s)
+      → getD l (getD m p 0) 0 ≡ number (seen K (wordIn s)) (crossing (wordIn s) p)
+  unfolding wordIn
+  listed-across m p o M h i =
+      let e : getD m p 0 ≡ crossing (wordIn s) p = M .at p i (omega arith) in
+      let b = crossing-below (wordIn s) (λ X. nested s X o) p i in
+      ap (λ x. getD l x 0) e ∙ N .at (crossing (wordIn s) p) b (omega arith)
