@@ -11,8 +11,8 @@
 // function asks anything of its caller.
 //
 // The bytes are checked once, before the first call. Where there are many calls, one pass over the map then finds
-// the other end, the area and the point of every place, in lists on the stack (24 KiB), and each call looks up in
-// them; few calls walk through the bytes.
+// the mate, the area and the point of every place, in lists on the stack (the crate `surveying`), and each call
+// looks up in them; few calls walk through the bytes.
 //
 // The source is document 01, "The drawing's book": "A session is a first number and a list of calls"; "on the
 // packed map too the place passes from call to call as in the book". specs/Codes.antt has the codes,

@@ -8,8 +8,8 @@
 // entries after the first 2m turning entries and the first m marks do.
 //
 // After the checks there are three passes over the positions, each in time in proportion to m: the
-// mates (the crate `surveying`), the ends, and the drawing from both. The three lists on the way have
-// 4,096 entries each and are the function's own: 24,576 bytes of its stack.
+// mates (the crate `surveying`), the ends, and the drawing from both, in lists on the function's own
+// stack.
 //
 // The source is document 01, "Tour and packed map", and its table, rows 8 to 12 and 16. The drawing of
 // a word is defined in the crate `format`; specs/Answers.antt says what an answer means, and the crate
