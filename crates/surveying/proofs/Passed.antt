@@ -30,7 +30,7 @@ use Rattle.format.specs.Bytes.{sizeIn, bitsA, partA, partB, familyBit, wordIn}
 use Rattle.format.specs.Open.{openRefusal}
 use Rattle.walking.proofs.Decoded.{seen-neither, nested, places-most}
 use Rattle.walking.proofs.Decoded as decoded
-use Rattle.surveying.specs.Passing.{Lists, Begun, Two, Openable, Closable, Passable, Opens, Closes, Passes}
+use Rattle.surveying.specs.Passing.{Lists, Begun, Two, Openable, Closable, Passable, Pushes, Pops, Passes}
 use Rattle.surveying.proofs.Fronts.{Fronted, fronted-start, fronted-stays, fronted-opens, fronted-closes}
 use Rattle.surveying.proofs.Labels.{Labelled, labelled-start, labelled-opens, labelled-stays, labelled-entry}
 use Rattle.surveying.proofs.Pairs.{Paired, paired-start, paired-opens, paired-entry, paired-closes}
@@ -40,11 +40,11 @@ module _ (x p : ℕ) (is ns ls ms : List ℕ) (i y : ℕ) (hi : i ≡ getD is x 
   pub close-known : Closable x p is ns ls ms → y < length ls
   close-known C = rw (hy, hi) (C .labelled)
 
-  pub closes-is : Closes x p is ns ls ms (set is x (getD ms (i - 1) 0)) (set ns x (getD ls y 0)) (set (set ms (i - 1) p) p (i - 1))
+  pub closes-is : Pops x p is ns ls ms (set is x (getD ms (i - 1) 0)) (set ns x (getD ls y 0)) (set (set ms (i - 1) p) p (i - 1))
   closes-is = rw (hy, hi) (record { inner = refl; number = refl; mates = refl })
 
 pub opens-is : (x p : ℕ) (is ns es ls ms : List ℕ)
-    → Opens x p (record { inner = is; number = ns; reached = es; labels = ls; mates = ms })
+    → Pushes x p (record { inner = is; number = ns; reached = es; labels = ls; mates = ms })
     (record {
       inner = set is x (p + 1);
       number = set ns x (getD es x 0 + 1);
@@ -59,11 +59,11 @@ pub passable-closes : (x v p : ℕ) (is ns es ls ms : List ℕ)
 passable-closes x v p is ns es ls ms P n = P .closing n
 
 module _ (x v p : ℕ) (l : Lists) where
-  pub passed-opens : (r : Lists) → v ≡ 0 → Opens x p l r → Passes x v p l r
+  pub passed-opens : (r : Lists) → v ≡ 0 → Pushes x p l r → Passes x v p l r
   passed-opens r z O =
       record { opened = λ e. O; closed = λ n. absurd (n z); reached = λ n. absurd (n z); labels = λ n. absurd (n z) }
 
-  pub passed-closes : (is ns ms : List ℕ) → (v ≡ 0 → ⊥) → Closes x p (l .inner) (l .number) (l .labels) (l .mates) is ns ms
+  pub passed-closes : (is ns ms : List ℕ) → (v ≡ 0 → ⊥) → Pops x p (l .inner) (l .number) (l .labels) (l .mates) is ns ms
       → Passes x v p l (record { inner = is; number = ns; reached = l .reached; labels = l .labels; mates = ms })
   passed-closes is ns ms n C =
       record { opened = λ z. absurd (n z); closed = λ m. C; reached = λ m. refl; labels = λ m. refl }
@@ -165,7 +165,7 @@ module _ (s : List ℕ) (o : openRefusal s ≡ 0) where
       other-stays : (X : Family) → familyBit X ≢ familyBit K → (j k r : ℕ) → Fronted X (wordIn s) p j k r → Fronted X (wordIn s) (p + 1) j k r
       other-stays X d j k r F = fronted-stays X (wordIn s) p j k r F (seen-neither s X p (λ e. d (sym e ∙ own)))
 
-      more-opens : (r : Lists) → v ≡ 0 → Opens (familyBit K) p l r → Known s old (p + 1) r
+      more-opens : (r : Lists) → v ≡ 0 → Pushes (familyBit K) p l r → Known s old (p + 1) r
       unfolding wordIn
       more-opens r z O =
           let x : ℕ = familyBit K in
@@ -211,7 +211,7 @@ module _ (s : List ℕ) (o : openRefusal s ≡ 0) where
           let same : X ≡ K = sym (seen-opens (wordIn s) X p u .0) ∙ seen-closes (wordIn s) K p (closes-here n) .0 in
           opens-not-closes (ap (λ Y. seen Y (wordIn s) p) (sym same) ∙ u) (closes-here n)
 
-      more-closes : (r : Lists) → (v ≡ 0 → ⊥) → Closes (familyBit K) p (l .inner) (l .number) (l .labels) (l .mates) (r .inner) (r .number) (r .mates)
+      more-closes : (r : Lists) → (v ≡ 0 → ⊥) → Pops (familyBit K) p (l .inner) (l .number) (l .labels) (l .mates) (r .inner) (r .number) (r .mates)
           → r .reached ≡ l .reached → r .labels ≡ l .labels → Known s old (p + 1) r
       unfolding wordIn
       more-closes r n C hr hl =

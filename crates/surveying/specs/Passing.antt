@@ -5,7 +5,8 @@
 --                    `labels` has at t + 1 the number of the point (area) that the bracket at t opened, and 1 at 0; and the mates
 -- Begun l         == so they are before the first position, with room for every map
 -- Openable, Closable, Passable == the bracket at p can be passed
--- Opens, Closes, Passes == what is done at an opening, at a closing, and by the bit v that tells them: 0 opens
+-- Pushes, Pops, Passes == what is done at an opening, at a closing, and by the bit v that tells them: 0 opens. The stack of open
+--                    brackets stands in the mates
 -- Assumes nothing.
 use mathlib.Core.Path.{_≡_}
 use mathlib.Core.List.{List}
@@ -54,20 +55,20 @@ pub record Passable (x v p : ℕ) (l : Lists) : Type 0 where
   pub opening : Openable x p l
   pub closing : (v ≡ 0 → ⊥) → Closable x p (l .inner) (l .number) (l .labels) (l .mates)
 
-pub record Opens (x p : ℕ) (l r : Lists) : Type 0 where
+pub record Pushes (x p : ℕ) (l r : Lists) : Type 0 where
   pub inner : r .inner ≡ set (l .inner) x (p + 1)
   pub number : r .number ≡ set (l .number) x (getD (l .reached) x 0 + 1)
   pub reached : r .reached ≡ set (l .reached) x (getD (l .reached) x 0 + 1)
   pub labels : r .labels ≡ set (l .labels) (p + 1) (getD (l .reached) x 0 + 1)
   pub mates : r .mates ≡ set (l .mates) p (getD (l .inner) x 0)
 
-pub record Closes (x p : ℕ) (is ns ls ms is′ ns′ ms′ : List ℕ) : Type 0 where
+pub record Pops (x p : ℕ) (is ns ls ms is′ ns′ ms′ : List ℕ) : Type 0 where
   pub inner : is′ ≡ set is x (getD ms (getD is x 0 - 1) 0)
   pub number : ns′ ≡ set ns x (getD ls (getD ms (getD is x 0 - 1) 0) 0)
   pub mates : ms′ ≡ set (set ms (getD is x 0 - 1) p) p (getD is x 0 - 1)
 
 pub record Passes (x v p : ℕ) (l r : Lists) : Type 0 where
-  pub opened : v ≡ 0 → Opens x p l r
-  pub closed : (v ≡ 0 → ⊥) → Closes x p (l .inner) (l .number) (l .labels) (l .mates) (r .inner) (r .number) (r .mates)
+  pub opened : v ≡ 0 → Pushes x p l r
+  pub closed : (v ≡ 0 → ⊥) → Pops x p (l .inner) (l .number) (l .labels) (l .mates) (r .inner) (r .number) (r .mates)
   pub reached : (v ≡ 0 → ⊥) → r .reached ≡ l .reached
   pub labels : (v ≡ 0 → ⊥) → r .labels ≡ l .labels

@@ -15,7 +15,7 @@ ghost use Rattle.drawing.specs.Laid.{laid};
 ghost use Rattle.format.specs.Bytes.{sizeIn, startB};
 ghost use Rattle.format.specs.Open.{openRefusal};
 ghost use Rattle.surveying.specs.Surveyed.{matesIn, numbersIn, Mates, Numbers};
-ghost use Rattle.surveying.specs.Passing.{Begun, Openable, Closable, Passable, Opens, Closes, Passes};
+ghost use Rattle.surveying.specs.Passing.{Begun, Openable, Closable, Passable, Pushes, Pops, Passes};
 
 // Fills the lists of a map: the mate, the area and the point of every place.
 pub fn survey(
@@ -103,8 +103,20 @@ fn passed(
     requires { ⌜ Passable x v p
         (record { inner = now inner; number = now number; reached = now reached; labels = now labels; mates = now mates }) ⌝ }
     ensures { λ _. ⌜ Passes x v p
-        (record { inner = now (inner .entry); number = now (number .entry); reached = now (reached .entry); labels = now (labels .entry); mates = now (mates .entry) })
-        (record { inner = now (inner .exit); number = now (number .exit); reached = now (reached .exit); labels = now (labels .exit); mates = now (mates .exit) }) ⌝ }
+        (record {
+          inner = now (inner .entry);
+          number = now (number .entry);
+          reached = now (reached .entry);
+          labels = now (labels .entry);
+          mates = now (mates .entry);
+        })
+        (record {
+          inner = now (inner .exit);
+          number = now (number .exit);
+          reached = now (reached .exit);
+          labels = now (labels .exit);
+          mates = now (mates .exit);
+        }) ⌝ }
 {
     if v == 0 {
         open(x, p, inner, number, reached, labels, mates);
@@ -126,9 +138,21 @@ fn open(
 )
     requires { ⌜ Openable x p
         (record { inner = now inner; number = now number; reached = now reached; labels = now labels; mates = now mates }) ⌝ }
-    ensures { λ _. ⌜ Opens x p
-        (record { inner = now (inner .entry); number = now (number .entry); reached = now (reached .entry); labels = now (labels .entry); mates = now (mates .entry) })
-        (record { inner = now (inner .exit); number = now (number .exit); reached = now (reached .exit); labels = now (labels .exit); mates = now (mates .exit) }) ⌝ }
+    ensures { λ _. ⌜ Pushes x p
+        (record {
+          inner = now (inner .entry);
+          number = now (number .entry);
+          reached = now (reached .entry);
+          labels = now (labels .entry);
+          mates = now (mates .entry);
+        })
+        (record {
+          inner = now (inner .exit);
+          number = now (number .exit);
+          reached = now (reached .exit);
+          labels = now (labels .exit);
+          mates = now (mates .exit);
+        }) ⌝ }
 {
     let k = reached[x] + 1;
     mates[p] = inner[x];
@@ -148,7 +172,7 @@ fn close(
     mates: &mut [u16],
 )
     requires { ⌜ Closable x p (now inner) (now number) (now labels) (now mates) ⌝ }
-    ensures { λ _. ⌜ Closes x p (now (inner .entry)) (now (number .entry)) (now (labels .entry)) (now (mates .entry))
+    ensures { λ _. ⌜ Pops x p (now (inner .entry)) (now (number .entry)) (now (labels .entry)) (now (mates .entry))
         (now (inner .exit)) (now (number .exit)) (now (mates .exit)) ⌝ }
 {
     let q = wide(inner[x]) - 1;
