@@ -26,8 +26,7 @@ use Rattle.drawing.specs.Session.{Call}
 use Rattle.format.specs.Bytes.{sizeIn, bitsA, wordIn}
 use Rattle.format.specs.Calls.{moveIn}
 use Rattle.format.specs.Open.{openRefusal}
-use Rattle.text.specs.Decimal.{decimal}
-use Rattle.text.specs.Input.{space, lineFeed}
+use Rattle.text.specs.Decimal.{space, lineFeed, decimal}
 use Rattle.text.specs.Listing.{kind, placeLine, placeLines}
 use Rattle.walking.specs.Positions.{Position}
 use Rattle.walking.proofs.Decoded.{places-most}

@@ -14,8 +14,7 @@ use Rattle.drawing.specs.Laid.{laid}
 use Rattle.drawing.specs.Session.{answer}
 use Rattle.format.specs.Bytes.{sizeIn, bitsA, wordIn}
 use Rattle.format.specs.Open.{openRefusal, afterRefusal, opened}
-use Rattle.text.specs.Decimal.{codes, decimal}
-use Rattle.text.specs.Input.{lineFeed}
+use Rattle.text.specs.Decimal.{codes, lineFeed, decimal}
 use Rattle.text.specs.Listing.{heading, placeLines, listing, refusedLine, listed}
 use Rattle.listing.specs.Printed.{printed}
 use Rattle.listing.specs.Writing.{Wrote}

@@ -18,7 +18,7 @@ ghost use lib.ListN.{length};
 ghost use Rattle.drawing.specs.Drawing.{mostEnds};
 ghost use Rattle.format.specs.Bytes.{sizeIn, bitsA, wordIn};
 ghost use Rattle.format.specs.Open.{openRefusal};
-ghost use Rattle.text.specs.Input.{space};
+ghost use Rattle.text.specs.Decimal.{space};
 ghost use Rattle.text.specs.Listing.{kind, placeLine, placeLines};
 ghost use Rattle.walking.specs.Positions.{Position};
 ghost use Rattle.listing.specs.Writing.{Wrote};

@@ -17,8 +17,8 @@ use lib.Dec.{eqb}
 use lib.ListN.{length, getD, drop, drop-of-length-le}
 use lib.Seq.{drop-length}
 use Rattle.count.specs.Below.{pick}
-use Rattle.text.specs.Decimal.{Read}
-use Rattle.text.specs.Input.{space, lineFeed, afterPrefix, with, readField, Line, readLine}
+use Rattle.text.specs.Decimal.{space, lineFeed, Read}
+use Rattle.text.specs.Input.{afterPrefix, with, readField, Line, readLine}
 use Rattle.text.proofs.Lines.{field-read}
 use Rattle.reading.specs.declared.answers.Field.{Field}
 use Rattle.reading.specs.declared.answers.Row.{Row}

@@ -13,8 +13,8 @@ use Prim.Native.Nat.{ℕ, _-_}
 use lib.Dec.{leb}
 use lib.ListN.{drop}
 use Rattle.count.specs.Below.{pick}
-use Rattle.text.specs.Decimal.{zeroByte, isDigit, Read, readNumber}
-use Rattle.text.specs.Input.{space, lineFeed, with, readField, Line}
+use Rattle.text.specs.Decimal.{space, lineFeed, zeroByte, isDigit, Read, readNumber}
+use Rattle.text.specs.Input.{with, readField, Line}
 use Rattle.reading.specs.declared.answers.Field.{Field}
 use Rattle.reading.specs.declared.answers.Row.{Row}
 

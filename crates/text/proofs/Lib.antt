@@ -1,6 +1,7 @@
--- The text of the program `places`: the laws.
+-- The texts of the programs `places` and `schedule`: the laws.
 pub mod Cases
 pub mod Decimal
 pub mod Lines
 pub mod Exact
 pub mod Short
+pub mod Aligned

@@ -19,8 +19,8 @@ use lib.Dec.{eqb, leb}
 use borrow.Author.Tests.{eqb-true, leb-true, eq-eqb, le-leb, ne-eqb}
 use Rattle.count.specs.Below.{pick}
 use Rattle.count.proofs.Logic.{same-or-not}
-use Rattle.text.specs.Decimal.{decimal, isDigit, Read, readNumber}
-use Rattle.text.specs.Input.{space, lineFeed, afterPrefix, with, readField, Line, readLine}
+use Rattle.text.specs.Decimal.{space, lineFeed, decimal, isDigit, Read, readNumber}
+use Rattle.text.specs.Input.{afterPrefix, with, readField, Line, readLine}
 use Rattle.text.proofs.Decimal.{read-decimal, number-decimal}
 
 module _ {X C : Type 0} where

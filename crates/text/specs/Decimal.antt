@@ -1,7 +1,8 @@
 -- Decimal numbers as text (document 01, "Listing": "Decimal, no leading zeros").
 --
--- codes t        == the bytes of a quoted text
+-- codes t        == the bytes of a quoted text; space, lineFeed and zeroByte are three bytes
 -- decimal x      == x in decimal, without leading zeros
+-- aligned w x    == x in decimal, right-aligned in w columns: with spaces before it where it has fewer digits
 -- readNumber s   == the decimal number that s begins with, and what follows it; none where s begins with no digit
 -- Assumes nothing.
 use mathlib.Core.Bool.{Bool, true, false, _&&_}
@@ -11,11 +12,18 @@ use Prim.Native.Nat.{ℕ, zero, suc, _+_, _-_, _*_, _/_, _%_}
 use Prim.Native.Char.{code}
 use Prim.Native.String.{String, [] as empty, _∷_ as _then_}
 use lib.Dec.{eqb, ltb, leb}
+use lib.ListN.{length, replicate}
 use Rattle.count.specs.Below.{pick}
 
 unfoldable pub codes : String → List ℕ
 codes empty = []
 codes (c then t) = code c ∷ codes t
+
+abbrev pub space : ℕ
+space = 32
+
+abbrev pub lineFeed : ℕ
+lineFeed = 10
 
 abbrev pub zeroByte : ℕ
 zeroByte = 48
@@ -28,6 +36,11 @@ decimalIn (suc k) x = elim (ltb x 10) [ true ↦ (zeroByte + x) ∷ [] | false �
 unfoldable pub decimal : ℕ → List ℕ
 unfolding decimalIn
 decimal x = decimalIn x x
+
+-- 02, 1/14: "right-aligned in 5 columns"
+unfoldable pub aligned : ℕ → ℕ → List ℕ
+unfolding decimal
+aligned w x = replicate (w - length (decimal x)) space ++ decimal x
 
 pub record Read : Type 0 where
   pub value : ℕ

@@ -14,18 +14,12 @@ use lib.Dec.{eqb, leb}
 use Rattle.count.specs.Below.{pick}
 use Rattle.drawing.specs.Drawing.{mostBorders, Drawing, borders, ends, turn}
 use Rattle.drawing.specs.Session.{Answer, answer, refused}
-use Rattle.text.specs.Decimal.{codes, decimal, Read, readNumber}
+use Rattle.text.specs.Decimal.{codes, space, lineFeed, decimal, Read, readNumber}
 
 -- 01: "The line of names is exactly the one shown."
 unfoldable pub names : List ℕ
 unfolding codes
 names = codes "border first second mark\n"
-
-abbrev pub space : ℕ
-space = 32
-
-abbrev pub lineFeed : ℕ
-lineFeed = 10
 
 -- 01: "one line per border in order, with its number, the entries of its even and odd end, its mark"; "single spaces, a line
 -- feed after each line"

@@ -1,4 +1,5 @@
--- The text of the program `places`: the definitions.
+-- The texts of the programs `places` and `schedule`: the definitions.
 pub mod Decimal
 pub mod Input
 pub mod Listing
+pub mod Schedule

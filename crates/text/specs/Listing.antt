@@ -3,6 +3,7 @@
 -- placeLine w p   == the line of position p: place, kind, mate, node and area
 -- listing s       == the listing of the map s
 -- refusedLine k   == `refused`, a space and the number
+-- shown text a    == the text made of the map that a gives, or the line of its refusal
 -- placesOf s      == what `places` prints for the text s
 -- Assumes nothing.
 use mathlib.Core.Bool.{Bool, true, false}
@@ -17,8 +18,8 @@ use Rattle.drawing.specs.Session.{Answer, answer, refused, Call}
 use Rattle.format.specs.Bytes.{longest, wordIn}
 use Rattle.format.specs.Calls.{moveIn}
 use Rattle.format.specs.Pack.{packOf}
-use Rattle.text.specs.Decimal.{codes, decimal}
-use Rattle.text.specs.Input.{space, lineFeed, readText}
+use Rattle.text.specs.Decimal.{codes, space, lineFeed, decimal}
+use Rattle.text.specs.Input.{readText}
 
 unfoldable pub heading : List ℕ
 unfolding codes
@@ -56,10 +57,15 @@ unfoldable pub refusedLine : ℕ → List ℕ
 unfolding codes decimal
 refusedLine k = codes "refused " ++ (decimal k ++ (lineFeed ∷ []))
 
+-- what is printed: the text made of the map that is given, or the line of the refusal
+unfoldable pub shown : (List ℕ → List ℕ) → Answer (List ℕ) → List ℕ
+unfolding refusedLine
+shown text (answer s) = text s
+shown text (refused k) = refusedLine k
+
 unfoldable pub listed : Answer (List ℕ) → List ℕ
-unfolding listing refusedLine
-listed (answer s) = listing s
-listed (refused k) = refusedLine k
+unfolding listing shown
+listed a = shown listing a
 
 -- 01: "It prints the places of the packed map"; the program lends packing all that it asks for
 unfoldable pub packed : Answer Drawing → Answer (List ℕ)

@@ -3,7 +3,7 @@ use mathlib.Core.Path.{sym, ap, _∙_}
 use native.Mathlib.Omega.{arith}
 use borrow.Author.Needs.{needs}
 use lib.ListN.{drop}
-use Rattle.text.specs.Input.{space, lineFeed}
+use Rattle.text.specs.Decimal.{space, lineFeed}
 use Rattle.reading.specs.Found.{fieldMeans}
 use Rattle.reading.proofs.Rows.{field-small, entries-first, entries-second, entries-mark, entries-all}
 use Rattle.reading.proofs.lines.entries.Statement.{statement}
