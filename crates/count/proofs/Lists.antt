@@ -3,10 +3,13 @@
 -- table-length, table-getD   == the table has n elements, and its i-th is f i
 -- gather-length, gather-getD == as many elements as numbers have the test, and the j-th is f at the j-th such number
 -- table-same, gather-same    == equal elements, and equal tests, give equal lists
+-- table-more                 == the table of one number more has one element more, at its end
+-- table-map                  == a function of each element of a table gives a table
 -- Assumes nothing.
 use mathlib.Core.Path.{_≡_, refl, sym, _∙_, ap}
 use mathlib.Core.Logic.{inl, inr}
 use mathlib.Core.Bool.{Bool}
+use mathlib.Core.List.{[], _∷_, _++_, map}
 use Prim.Native.Nat.{ℕ, zero, suc, _+_, _<_}
 use native.Mathlib.Numerals.{add-one}
 use native.Mathlib.Omega.{arith}
@@ -76,12 +79,39 @@ module _ {ℓ} {X : Type ℓ} (P : ℕ → Bool) (f : ℕ → X) where
   gather-getD n j d h =
       gathered-getD 0 n n j j d (omega arith) (omega (arith, count-zero P)) h
 
-pub table-same : (f g : ℕ → ℕ) (n : ℕ) → ((x : ℕ) → x < n → f x ≡ g x) → table f n ≡ table g n
-table-same f g n same =
-    let a = table-length f n in
-    let b = table-length g n in
-    ext-getD 0 (table f n) (table g n) (omega arith)
-    (λ i l. table-getD f n i 0 (omega arith) ∙ same i (omega arith) ∙ sym (table-getD g n i 0 (omega arith)))
+module _ {ℓ} {X : Type ℓ} (f g : ℕ → X) where
+  from-same : (a k : ℕ) → ((x : ℕ) → x < a + k → f x ≡ g x) → tableFrom f a k ≡ tableFrom g a k
+  unfolding tableFrom
+  from-same a zero same = refl
+  from-same a (suc k) same =
+      ap (λ x. x ∷ tableFrom f (suc a) k) (same a (omega arith))
+      ∙ ap (λ l. g a ∷ l) (from-same (suc a) k (λ x l. same x (omega arith)))
+
+  pub table-same : (n : ℕ) → ((x : ℕ) → x < n → f x ≡ g x) → table f n ≡ table g n
+  unfolding table
+  table-same n same = from-same 0 n (λ x l. same x (omega arith))
+
+module _ {ℓ} {X : Type ℓ} (f : ℕ → X) where
+  from-more : (a k : ℕ) → tableFrom f a (suc k) ≡ tableFrom f a k ++ (f (a + k) ∷ [])
+  unfolding tableFrom
+  from-more a zero = let e : a ≡ a + 0 = omega arith in ap (λ x. f x ∷ []) e
+  from-more a (suc k) =
+      let e : suc a + k ≡ a + suc k = omega arith in
+      ap (λ l. f a ∷ l) (from-more (suc a) k ∙ ap (λ x. tableFrom f (suc a) k ++ (f x ∷ [])) e)
+
+  pub table-more : (n : ℕ) → table f (suc n) ≡ table f n ++ (f n ∷ [])
+  unfolding table
+  table-more n = let e : 0 + n ≡ n = omega arith in from-more 0 n ∙ ap (λ x. tableFrom f 0 n ++ (f x ∷ [])) e
+
+module _ {ℓ} {X Y : Type ℓ} (h : X → Y) (f : ℕ → X) where
+  from-map : (a k : ℕ) → map h (tableFrom f a k) ≡ tableFrom (λ i. h (f i)) a k
+  unfolding tableFrom
+  from-map a zero = refl
+  from-map a (suc k) = ap (λ l. h (f a) ∷ l) (from-map (suc a) k)
+
+  pub table-map : (n : ℕ) → map h (table f n) ≡ table (λ i. h (f i)) n
+  unfolding table
+  table-map n = from-map 0 n
 
 pub gather-same : (P Q : ℕ → Bool) (f g : ℕ → ℕ) (n : ℕ) → ((x : ℕ) → x < n → P x ≡ Q x) → ((x : ℕ) → x < n → f x ≡ g x)
     → gather P f n ≡ gather Q g n

@@ -8,11 +8,11 @@
 --                   gives the drawing renumbered. Its parts are demand-2-pack and demand-2-round-trip.
 -- demand-3       == whatever packing answers agrees with the drawing's book: every session, every answer about point and area
 --                   numbers, one number for one point (area), where turns end, how many points and areas there are and which
---                   numbers they have
+--                   numbers they have, and the printed schedule
 -- every-map      == the same of every byte string that opens, with the book of its unpacked drawing
 -- unpacked-agrees == the same of every byte string that opens and whatever unpacking it answers
 -- packed-agrees  == the same of the bytes of a drawing that passes 1 to 7. Its parts are demand-3-sessions, demand-3-numbers,
---                   same-point, same-area, turn-zero, areas-count and has-number.
+--                   same-point, same-area, turn-zero, areas-count, has-number and schedule-book.
 -- Assumes nothing.
 use mathlib.Core.Path.{_≡_, refl, sym, ap, _∙_, subst}
 use mathlib.Core.Bool.{Bool, true, false, _&&_}
@@ -44,6 +44,7 @@ pub use Rattle.format.proofs.Refusals.{pack-refusals}
 use Rattle.format.proofs.Decode.{passes-nested, opens-encode}
 use Rattle.format.proofs.Encode.{fits-lengths}
 use Rattle.format.proofs.Parts.{map-length}
+use Rattle.format.proofs.Longest.{map-length-most}
 use Rattle.agreement.proofs.Passed.{passes-toured, passes-fits, packed-opens, packed-map, packed-size}
 use Rattle.agreement.proofs.Book.{session-same}
 use Rattle.roundtrip.proofs.Passes.{drawing-passes}
@@ -55,7 +56,8 @@ use Rattle.demands.proofs.Faithful.{passes-faithful, packed-alike}
 use Rattle.demands.proofs.Answers.{opens-opened, packed-call, packed-first, packed-size-of, packed-joining}
 use Rattle.demands.proofs.AlikeDrawings.{alike-drawing}
 use Rattle.demands.proofs.Cells.{same-number, turn-zero-in, cell-counts, known-numbers}
-use Rattle.demands.proofs.Turan.{turan-packed, map-length-most}
+use Rattle.demands.proofs.Turan.{turan-packed}
+use Rattle.demands.proofs.Schedule.{schedule-book}
 
 packed-long : (D : Drawing) → PassesSeven D → length (packedBytes D) ≡ mapLength (sizeFor D)
 unfolding packedBytes
@@ -237,6 +239,7 @@ module _ (D : Drawing) (seven : PassesSeven D) where
         zeros = packed-zero;
         counts = areas-count;
         known = has-number;
+        schedule = schedule-book D (packedBytes D) (packed-opens D seven) packed-open-of demand-3-numbers areas-count;
       }
 
 pub demand-3 : (D : Drawing) (work out : ℕ) (s : List ℕ) → packOf D work out ≡ answer s → Agrees D s

@@ -7,4 +7,5 @@ pub mod Answers
 pub mod Turan
 pub mod Calls
 pub mod Cells
+pub mod Schedule
 pub mod Demands

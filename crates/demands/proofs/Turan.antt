@@ -1,21 +1,18 @@
 -- The bytes of a drawing's word are the header and Turán's three strings, straight from the drawing.
 --
 -- turan-packed     == turanBytes is what packing writes
--- map-length-most  == no map is longer than the longest
 -- Assumes nothing.
 use mathlib.Core.Path.{_≡_, refl, sym, ap, ap₂, _∙_}
 use mathlib.Core.Bool.{Bool, true, false, not}
 use mathlib.Core.List.{List, _++_}
-use Prim.Native.Nat.{ℕ, _+_, _≤_}
-use native.Mathlib.Omega.{arith}
+use Prim.Native.Nat.{ℕ}
 use Rattle.count.specs.Below.{pick}
 use Rattle.count.proofs.Lists.{table-same, gather-same}
 use Rattle.words.specs.declared.family.Family.{Family}
 use Rattle.words.specs.declared.family.Family.the-variants.{Round as round, Square as square}
 use Rattle.words.specs.Word.{sameFamily}
-use Rattle.bits.specs.Strings.{bytesFor}
-use Rattle.drawing.specs.Drawing.{mostBorders, Drawing, Kind, borders, ends, cells, isSecond}
-use Rattle.format.specs.Bytes.{Size, le16, bytesOf, closingBit, familyBit, startB, mapLength, longest, mapBytes, stringA, stringB}
+use Rattle.drawing.specs.Drawing.{Drawing, Kind, borders, ends, cells, isSecond}
+use Rattle.format.specs.Bytes.{le16, bytesOf, closingBit, familyBit, mapBytes, stringA, stringB}
 use Rattle.format.specs.Pack.{wordOf, packedBytes}
 use Rattle.demands.specs.Statements.{markedAt, turanBytes}
 
@@ -44,7 +41,3 @@ turan-packed D =
     let S = gather-same (λ p. not (markedAt D p)) (λ p. sameFamily square (pick (markedAt D p) round square)) second second (ends D)
     (λ p l. square-test (markedAt D p)) (λ p l. refl) in
     λ i. a (A i) (B i) (S i)
-
-pub map-length-most : (z : Size) → z .m ≤ mostBorders → 1 ≤ z .n → z .n ≤ z .m + 1 → mapLength z ≤ longest
-unfolding mapLength startB bytesFor
-map-length-most z a b c = omega arith

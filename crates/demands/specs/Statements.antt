@@ -14,7 +14,7 @@
 -- TurnZero s p        == where a turn and a turn back answer 0
 -- CellCounts D        == there are n points and m - n + 2 areas, and the sizes of each add up to 2m
 -- HasNumber D c       == the numbers that the book knows are those that some end has
--- Agrees D s          == the whole of demand 3, of the drawing D and the map s
+-- Agrees D s          == the whole of demand 3, of the drawing D and the map s, and of its printed schedule
 -- Assumes nothing.
 use mathlib.Core.Path.{_≡_}
 use mathlib.Core.Logic.{_≢_, _⊎_, _↔_}
@@ -37,6 +37,7 @@ use Rattle.format.specs.Bytes.{Size, sizeIn, wordIn, le16, bytesOf, closingBit,
 use Rattle.format.specs.Open.{Opens, openOf}
 use Rattle.format.specs.Calls.{mapSession, turnOf, turnBackOf, pointOf, areaOf, firstOf, sizeOf, neighboursOf, joiningOf}
 use Rattle.format.specs.Pack.{Room, sizeFor, packedBytes, packOf, unpackOf}
+use Rattle.text.specs.Schedule.{bookRows, scheduleText, scheduleOf}
 
 abbrev pub markedAt : Drawing → ℕ → Bool
 markedAt D p = isMarked D (border (endAt D p))
@@ -139,7 +140,7 @@ pub record HasNumber (D : Drawing) (c : Kind) : Type 0 where
 
 -- Demand 3, whole. 01: "Demand 3 is one statement about the whole list"; it "covers counts and searches". The map s is a
 -- byte string that opens, with the drawing's m and n. Beside the answers stands what document 01 says of the numbers and of the
--- zeros among them.
+-- zeros among them, and the printed schedule of document 02, 1/14: it is made of the book's numbers.
 pub record Agrees (D : Drawing) (s : List ℕ) : Type 0 where
   pub opens : Opens s
   pub size : openOf s ≡ answer (sizeFor D)
@@ -150,3 +151,4 @@ pub record Agrees (D : Drawing) (s : List ℕ) : Type 0 where
   pub zeros : (p : ℕ) → p < ends D → TurnZero s p
   pub counts : CellCounts D
   pub known : (c : Kind) → HasNumber D c
+  pub schedule : scheduleOf s ≡ scheduleText (bookRows D)

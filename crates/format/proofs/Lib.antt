@@ -7,6 +7,8 @@ pub mod Chain
 pub mod Passes
 pub mod Refusals
 pub mod Encode
+pub mod Longest
 pub mod Decode
+pub mod Openings
 pub mod Ranks
 pub mod Small

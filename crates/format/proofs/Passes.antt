@@ -1,5 +1,6 @@
 -- Checks 8 to 12: the tests decide their propositions, and opening gives the number of the first that fails.
 --
+-- decides-size   == the test of check 8 decides its proposition
 -- Passes s       == what the five checks say of the bytes s, in one record
 -- opens-passes, passes-opens == no refusal applies exactly if they hold
 -- open-refusals  == opening gives the number of the first check that fails, or m and n
@@ -50,7 +51,7 @@ brackets-decides s K =
     record { sound = d .0; complete = d .1 }
 
 module _ (s : List ℕ) where
-  decides-size : Decides (sizeFits s) (SizeFits s)
+  pub decides-size : Decides (sizeFits s) (SizeFits s)
   unfolding sizeFits
   decides-size =
       decides-as (λ t. record { header-fits = t .0 .0 .0; m-most = t .0 .0 .1; n-least = t .0 .1; n-most = t .1 })

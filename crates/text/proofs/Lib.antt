@@ -5,3 +5,5 @@ pub mod Lines
 pub mod Exact
 pub mod Short
 pub mod Aligned
+pub mod Pages
+pub mod Schedule

@@ -3,3 +3,4 @@ pub mod Decimal
 pub mod Input
 pub mod Listing
 pub mod Schedule
+pub mod Statements

@@ -7,7 +7,6 @@
 -- mate-ranks      == partner: rank, partner in the family's string, select
 -- number-ranks    == number: rank, innermost open bracket of the string, and how many open before it
 -- first-ranks     == first position: the place after the opening that select finds
--- cells-openings  == there is one point (area) more than openings
 -- Assumes nothing.
 use mathlib.Core.Path.{_≡_, refl, sym, ap, _∙_}
 use mathlib.Core.Bool.{Bool, true, false}
@@ -20,20 +19,17 @@ use Rattle.count.specs.Below.{pick, count, nth}
 use Rattle.count.proofs.Below.{nth-same}
 use Rattle.words.specs.Brackets.{opens, closes, neither, isOpens, inner, Balanced, mate, number, first}
 use Rattle.words.specs.declared.family.Family.{Family}
-use Rattle.words.specs.declared.family.Family.the-variants.{Round as round, Square as square}
 use Rattle.words.specs.Word.{seen}
-use Rattle.words.proofs.Halves.{openings-half-all}
 use Rattle.words.proofs.Numbers.{openings, number-is, first-opening}
 use Rattle.words.proofs.Thin.{Thins, thin-mate}
+use Rattle.words.proofs.Openings.{thin-number, thin-opening}
 use Rattle.bits.specs.Strings.{bit, isBit, rank, select, brackets}
-use Rattle.bits.proofs.Laws.{bracket-0, bracket-not-0, bracket-cases, rank-openings}
-use Rattle.drawing.specs.Drawing.{Kind}
+use Rattle.bits.proofs.Laws.{bracket-0, bracket-not-0, rank-openings}
 use Rattle.format.specs.Bytes.{sizeIn, bitsA, bitsB, partA, partB, familyBit, wordIn}
 use Rattle.format.specs.Open.{openRefusal}
-use Rattle.format.specs.Calls.{familyOfKind, cellsIn}
 use Rattle.format.proofs.Passes.{opens-passes}
 use Rattle.format.proofs.Decode.{word-thins, rank-all, passes-nested}
-use Rattle.walking.proofs.Openings.{thin-openings, thin-number, thin-opening}
+use Rattle.format.proofs.Openings.{openings-ranks}
 
 pub places-most : (s : List ℕ) → openRefusal s ≡ 0 → bitsA (sizeIn s) ≤ 4096
 places-most s e = omega (arith, opens-passes s e .m-most)
@@ -92,20 +88,6 @@ module _ (s : List ℕ) (K : Family) where
         ∙ number-is (brackets B) j
         ∙ ap (λ x. x + 1) (rank-openings B (inner (brackets B) j))
 
-    pub openings-ranks : openings (seen K (wordIn s)) (bitsA (sizeIn s)) ≡ rank 0 (partB K s) (bitsB K (sizeIn s))
-    unfolding rank
-    openings-ranks =
-        let B = partB K s in
-        thin-openings (isBit (familyBit K) (partA s)) (seen K (wordIn s)) (brackets B) (bitsA (sizeIn s)) (thins (bitsA (sizeIn s))) (bitsA (sizeIn s)) (omega arith)
-        ∙ ap (openings (brackets B)) ranks
-        ∙ rank-openings B (bitsB K (sizeIn s))
-
-    half-open : 2 * rank 0 (partB K s) (bitsB K (sizeIn s)) ≡ bitsB K (sizeIn s)
-    half-open =
-        let B = partB K s in
-        let n = bitsB K (sizeIn s) in
-        ap (λ x. 2 * x) (sym (rank-openings B n)) ∙ openings-half-all (brackets B) n (opens-passes s o .nested K) (bracket-cases B)
-
     pub first-ranks : (j : ℕ) → j < rank 0 (partB K s) (bitsB K (sizeIn s))
         → first (seen K (wordIn s)) (bitsA (sizeIn s)) (j + 2)
         ≡ select (familyBit K) (partA s) (bitsA (sizeIn s)) (select 0 (partB K s) (bitsB K (sizeIn s)) j) + 1
@@ -116,14 +98,8 @@ module _ (s : List ℕ) (K : Family) where
         let k = bitsB K (sizeIn s) in
         let few : j < openings (brackets B) (count (isBit (familyBit K) A) (bitsA (sizeIn s)))
         = rw (ranks, rank-openings B k) l in
-        first-opening (seen K (wordIn s)) (bitsA (sizeIn s)) nested j (rw openings-ranks l)
+        first-opening (seen K (wordIn s)) (bitsA (sizeIn s)) nested j (rw (openings-ranks s K o) l)
         ∙ ap (λ x. x + 1)
         (thin-opening (isBit (familyBit K) A) (seen K (wordIn s)) (brackets B) (bitsA (sizeIn s)) (thins (bitsA (sizeIn s))) j few
         ∙ ap (λ n. nth (isBit (familyBit K) A) (nth (λ q. isOpens (brackets B q)) j n) (bitsA (sizeIn s))) ranks
         ∙ ap (λ x. nth (isBit (familyBit K) A) x (bitsA (sizeIn s))) (select-openings B k j))
-
--- one more than the openings of a family are its points (areas)
-pub cells-openings : (s : List ℕ) (c : Kind) → openRefusal s ≡ 0
-    → rank 0 (partB (familyOfKind c) s) (bitsB (familyOfKind c) (sizeIn s)) + 1 ≡ cellsIn (sizeIn s) c
-cells-openings s Kind.point o = omega (arith, half-open s round o, opens-passes s o .n-least)
-cells-openings s Kind.area o = omega (arith, half-open s square o, opens-passes s o .n-least, opens-passes s o .n-most)

@@ -32,7 +32,8 @@ use Rattle.format.specs.Calls.{familyOfKind}
 use Rattle.opening.specs.declared.answers.Cell.{Cell}
 use Rattle.opening.specs.Cells.{kindOf, numberOfCell}
 use Rattle.walking.specs.Positions.{Position, Numbered}
-use Rattle.walking.proofs.Decoded.{places-most, seen-neither, nested, mate-ranks, number-ranks, openings-ranks, first-ranks, cells-openings}
+use Rattle.walking.proofs.Decoded.{places-most, seen-neither, nested, mate-ranks, number-ranks, first-ranks}
+use Rattle.format.proofs.Openings.{openings-ranks, cells-openings}
 
 module _ (s : List ℕ) (p : ℕ) (a : List ℕ) (x : ℕ) (ha : a ≡ partA s) (hx : x ≡ bit a p) where
   bit-is : bit (partA s) p ≡ x

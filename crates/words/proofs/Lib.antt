@@ -12,5 +12,6 @@ pub mod Sizes
 pub mod Halves
 pub mod Same
 pub mod Thin
+pub mod Openings
 pub mod Crossing
 pub mod Order

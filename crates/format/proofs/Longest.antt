@@ -1,0 +1,82 @@
+-- No map is longer than the longest.
+--
+-- map-length-most  == the length that the header gives is at most the longest
+-- long-refused     == bytes longer than the longest map don't open: 8 by their header, else 9
+-- open-cut         == and so opening gives their first 1,030 bytes the number that it gives all of them
+-- Assumes nothing.
+use mathlib.Core.Path.{_≡_, refl, sym, ap, _∙_}
+use mathlib.Core.Logic.{inl, inr}
+use mathlib.Core.Bool.{Bool, true, false, _&&_}
+use mathlib.Core.List.{List}
+use Prim.Native.Nat.{ℕ, _+_, _≤_, _<_}
+use native.Mathlib.Omega.{arith}
+use lib.Dec.{leb}
+use lib.ListN.{length, getD, take}
+use lib.Seq.{getD-take, length-take-le, take-all}
+use borrow.Author.Tests.{ne-eqb, le-leb}
+use Rattle.count.specs.Below.{Decides}
+use Rattle.count.proofs.Logic.{lt-or-ge, true-or-false}
+use Rattle.bits.specs.Strings.{bytesFor}
+use Rattle.drawing.specs.Drawing.{mostBorders}
+use Rattle.format.specs.Bytes.{header, Size, sizeIn, le16At, startB, mapLength, longest}
+use Rattle.format.specs.Open.{unless, SizeFits, sizeFits, lengthFits, openRefusal}
+use Rattle.format.proofs.Passes.{decides-size}
+
+pub map-length-most : (z : Size) → z .m ≤ mostBorders → 1 ≤ z .n → z .n ≤ z .m + 1 → mapLength z ≤ longest
+unfolding mapLength startB bytesFor
+map-length-most z a b c = omega arith
+
+-- what 8 and 9 make of bytes that are longer than the longest map
+abbrev tooLong : List ℕ → ℕ
+tooLong s = unless (sizeFits s) 8 9
+
+module _ (s : List ℕ) (h : longest < length s) where
+  no-length : sizeFits s ≡ true → lengthFits s ≡ false
+  unfolding lengthFits
+  no-length e =
+      let f : SizeFits s = decides-size s .sound e in
+      let l = map-length-most (sizeIn s) (f .m-most) (f .n-least) (f .n-most) in
+      ne-eqb (length s) (mapLength (sizeIn s)) (omega arith)
+
+  pub long-refused : openRefusal s ≡ tooLong s
+  unfolding openRefusal
+  long-refused =
+      elim (true-or-false (sizeFits s)) [
+        | inl e ↦ rw (e, no-length e)
+        | inr e ↦ rw e
+      ]
+
+module _ (s : List ℕ) (h : longest < length s) where
+  abbrev cut : List ℕ
+  cut = take (longest + 1) s
+
+  cut-long : length cut ≡ longest + 1
+  cut-long = length-take-le (longest + 1) s (omega arith)
+
+  cut-byte : (i : ℕ) → i < longest + 1 → getD cut i 0 ≡ getD s i 0
+  cut-byte i l = getD-take (longest + 1) s i 0 l
+
+  cut-header : sizeIn cut ≡ sizeIn s
+  unfolding sizeIn le16At
+  cut-header = rw (cut-byte 0 (omega arith), cut-byte 1 (omega arith), cut-byte 2 (omega arith), cut-byte 3 (omega arith))
+
+  cut-fits : sizeFits cut ≡ sizeFits s
+  unfolding sizeFits
+  cut-fits =
+      let l = cut-long in
+      let a : leb header (length cut) ≡ true = le-leb header (length cut) (omega arith) in
+      let b : leb header (length s) ≡ true = le-leb header (length s) (omega arith) in
+      ap (λ t. t && leb (sizeIn cut .m) mostBorders && leb 1 (sizeIn cut .n) && leb (sizeIn cut .n) (sizeIn cut .m + 1)) (a ∙ sym b)
+      ∙ ap (λ (z : Size). leb header (length s) && leb (z .m) mostBorders && leb 1 (z .n) && leb (z .n) (z .m + 1)) cut-header
+
+  cut-refused : openRefusal cut ≡ openRefusal s
+  cut-refused =
+      let l = cut-long in
+      long-refused cut (omega arith) ∙ ap (λ t. unless t 8 9) cut-fits ∙ sym (long-refused s h)
+
+pub open-cut : (s : List ℕ) → openRefusal (take (longest + 1) s) ≡ openRefusal s
+open-cut s =
+    elim (lt-or-ge longest (length s)) [
+      | inl l ↦ cut-refused s l
+      | inr g ↦ ap openRefusal (take-all (longest + 1) s (omega arith))
+    ]
