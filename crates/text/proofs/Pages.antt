@@ -163,8 +163,7 @@ module _ (rs : List Row) (r : Row) where
   pages-grow z q e =
       let n = grown-length in
       let a : pageCount (length grown) ≡ suc q = omega arith in
-      let b : pageCount (length rs) ≡ suc q = omega arith in
-      (
+      let b : pageCount (length rs) ≡ suc q = omega arith in (
         ap (table (pageOf rs)) b ∙ table-more (pageOf rs) q,
         ap (table (pageOf grown)) a
             ∙ table-more (pageOf grown) q

@@ -1,0 +1,27 @@
+-- What a tally fills its lists with, one entry for each area (entry k - 1 is that of area k).
+--
+-- sidesIn s   == how many sides each area of the map s has
+-- firstsIn s  == the first place of each area
+-- Blank l     == every entry of l is 0
+-- Assumes nothing.
+use mathlib.Core.Path.{_≡_}
+use mathlib.Core.List.{List}
+use Prim.Native.Nat.{ℕ, suc}
+use lib.ListN.{getD}
+use Rattle.count.specs.Below.{table}
+use Rattle.drawing.specs.Drawing.{Kind}
+use Rattle.format.specs.Bytes.{sizeIn, wordIn}
+use Rattle.format.specs.Calls.{cellsIn, firstIn, placesIn}
+
+-- 01, Moves: "sides of an area: how many places have that number"
+unfoldable pub sidesIn : List ℕ → List ℕ
+unfolding table placesIn wordIn sizeIn
+sidesIn s = table (λ i. placesIn (wordIn s) Kind.area (suc i)) (cellsIn (sizeIn s) Kind.area)
+
+-- 01, Moves: "First place of an area: its lowest." It is "0 if m = 0".
+unfoldable pub firstsIn : List ℕ → List ℕ
+unfolding table firstIn wordIn sizeIn
+firstsIn s = table (λ i. firstIn (wordIn s) Kind.area (suc i)) (cellsIn (sizeIn s) Kind.area)
+
+pub record Blank (l : List ℕ) : Type 0 where
+  pub zero : (i : ℕ) → getD l i 0 ≡ 0

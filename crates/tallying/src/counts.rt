@@ -1,0 +1,67 @@
+// Counting the sides of all areas in one loop over the places of a map.
+use layout::bits_a;
+use surveying::area_in;
+use surveying::survey;
+ghost use mathlib.Core.Path.{_≡_};
+ghost use Prim.Native.Nat.{_≤_};
+ghost use lib.Dec.{eqb};
+ghost use lib.ListN.{length};
+ghost use Rattle.count.specs.Below.{pick};
+ghost use Rattle.words.specs.Brackets.{number};
+ghost use Rattle.words.specs.declared.family.Family.the-variants.{Square as square};
+ghost use Rattle.words.specs.Word.{seen};
+ghost use Rattle.drawing.specs.Laid.{laid};
+ghost use Rattle.format.specs.Bytes.{wordIn};
+ghost use Rattle.format.specs.Open.{openRefusal};
+ghost use Rattle.surveying.specs.Surveyed.{Numbers};
+ghost use Rattle.walking.specs.Positions.{Position};
+ghost use Rattle.tallying.specs.Tallied.{sidesIn, firstsIn, Blank};
+
+// The most areas of a map: 2,048 borders on one point.
+pub const MOST_AREAS: usize = 2049;
+
+// Fills the lists of a map: how many sides each area has, and its first place.
+pub fn tally(map: &[u8], sides: &mut [u16; MOST_AREAS], firsts: &mut [u16; MOST_AREAS])
+    requires { ⌜ (openRefusal (now map) ≡ 0) × Blank (now sides) × Blank (now firsts) ⌝ }
+    ensures { λ _. ⌜ now (sides .exit) ≡ laid (sidesIn (now (map .entry))) (now (sides .entry)) ⌝ }
+    ensures { λ _. ⌜ now (firsts .exit) ≡ laid (firstsIn (now (map .entry))) (now (firsts .entry)) ⌝ }
+{
+    let mut mates = [0u16; 4096];
+    let mut areas = [0u16; 4096];
+    let mut points = [0u16; 4096];
+    survey(map, &mut mates, &mut areas, &mut points);
+    count_sides(map, &areas, sides, firsts);
+}
+
+// Each place is a side of its area, and the first place where no side of the area came before it.
+fn count_sides(map: &[u8], areas: &[u16; 4096], sides: &mut [u16], firsts: &mut [u16])
+    requires { ⌜ (openRefusal (now map) ≡ 0) × Numbers square (now map) (now areas) ⌝ }
+    requires { ⌜ Blank (now sides) × (2049 ≤ length (now sides)) × Blank (now firsts) × (2049 ≤ length (now firsts)) ⌝ }
+    ensures { λ _. ⌜ now (sides .exit) ≡ laid (sidesIn (now (map .entry))) (now (sides .entry)) ⌝ }
+    ensures { λ _. ⌜ now (firsts .exit) ≡ laid (firstsIn (now (map .entry))) (now (firsts .entry)) ⌝ }
+{
+    let n = bits_a(map);
+    let mut p = 0;
+    while p < n {
+        let k = own_area(map, areas, p) - 1;
+        firsts[k] = first_of(sides[k], firsts[k], (p + 1) as u16);
+        sides[k] += 1;
+        p += 1;
+    }
+}
+
+// The number of the area that position p is a side of.
+fn own_area(map: &[u8], areas: &[u16], p: usize) -> usize
+    requires { ⌜ Position (now map) p × Numbers square (now map) (now areas) ⌝ }
+    ensures { λ r. ⌜ r ≡ number (seen square (wordIn (now (map .entry)))) p ⌝ }
+{
+    area_in(map, areas, p).0
+}
+
+// The first place of an area, once `place` is met after so many of its sides. A choice between two numbers and no branch: which
+// of the two comes next can't be foreseen.
+fn first_of(sides: u16, first: u16, place: u16) -> u16
+    ensures { λ r. ⌜ r ≡ pick (eqb sides 0) place first ⌝ }
+{
+    if sides == 0 { place } else { first }
+}
