@@ -1,5 +1,4 @@
 -- The listing of a map: laws.
-pub mod Writes
 pub mod Letters
 pub mod Listed
 pub mod Texts

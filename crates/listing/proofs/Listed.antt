@@ -6,7 +6,7 @@
 -- line-fields      == a line is its five fields
 -- line-wrote       == they are put one after the other
 -- lines-more       == the lines of one place more
--- Lined            == what the loop of `put_lines` keeps: the lines of the first p bitsA (sizeIn s)tand
+-- Lined            == what the loop of `put_lines` keeps: the lines of the first p places stand
 -- lined-position, lined-room == the next place is one of the map, and its line has room
 -- Assumes nothing.
 use mathlib.Core.Path.{_≡_, refl, sym, ap, _∙_}
@@ -30,8 +30,8 @@ use Rattle.text.specs.Decimal.{space, lineFeed, decimal}
 use Rattle.text.specs.Listing.{kind, placeLine, placeLines}
 use Rattle.walking.specs.Positions.{Position}
 use Rattle.walking.proofs.Decoded.{places-most}
-use Rattle.listing.specs.Writing.{Wrote}
-use Rattle.listing.proofs.Writes.{wrote-none, wrote-then, wrote-as}
+use Rattle.printing.specs.Writing.{Wrote}
+use Rattle.printing.proofs.Writes.{wrote-none, wrote-then, wrote-as}
 
 pub number-few : (s : List ℕ) (K : Family) (p x : ℕ) → Position s p → x ≡ number (seen K (wordIn s)) p → x < 10000
 number-few s K p x P e =

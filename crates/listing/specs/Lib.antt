@@ -1,3 +1,2 @@
 -- The listing of a map: definitions.
 pub mod Printed
-pub mod Writing

@@ -1,7 +1,6 @@
 // The listing of a map as text, or the line of a refusal.
 //
-//     list      the listing of a map, or the line of the check that declines its bytes
-//     refused   the line `refused`, a space and a number
+//     list   the listing of a map, or the line of the check that declines its bytes
 //
 // Conventions. The text stands at the start of the memory lent, and its length is answered; the bytes
 // after it stay as they were. The memory has the room of the longest listing: a heading of 26 bytes
@@ -11,8 +10,6 @@
 // `text`, and `printed` in specs/Printed.antt.
 mod lines;
 mod print;
-mod write;
 
 pub use print::ROOM;
 pub use print::list;
-pub use print::refused;

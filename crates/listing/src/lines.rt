@@ -1,10 +1,10 @@
 // The lines of a listing, one for each place: place, kind, mate, node and area.
-use crate::write::put_byte;
-use crate::write::put_number;
 use layout::bits_a;
 use layout::family_bit;
 use layout::part_a;
 use layout::part_b;
+use printing::put_byte;
+use printing::put_number;
 use walking::area_of;
 use walking::crossing_at;
 use walking::family_at;
@@ -18,10 +18,10 @@ ghost use lib.ListN.{length};
 ghost use Rattle.drawing.specs.Drawing.{mostEnds};
 ghost use Rattle.format.specs.Bytes.{sizeIn, bitsA, wordIn};
 ghost use Rattle.format.specs.Open.{openRefusal};
+ghost use Rattle.printing.specs.Writing.{Wrote};
 ghost use Rattle.text.specs.Decimal.{space};
 ghost use Rattle.text.specs.Listing.{kind, placeLine, placeLines};
 ghost use Rattle.walking.specs.Positions.{Position};
-ghost use Rattle.listing.specs.Writing.{Wrote};
 
 // The lines of all places, from byte `at` on. The byte after them.
 pub fn put_lines(map: &[u8], out: &mut [u8], at: usize) -> usize

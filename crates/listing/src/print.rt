@@ -1,16 +1,15 @@
 // The whole text: a listing, or the line of a refusal.
 use crate::lines::put_lines;
-use crate::write::put_number;
-use crate::write::put_text;
 use format::MOST_ENDS;
+use printing::put_text;
 ghost use mathlib.Core.Path.{_≡_};
 ghost use Prim.Native.Nat.{_≤_};
 ghost use lib.ListN.{length};
 ghost use Rattle.drawing.specs.Laid.{laid};
 ghost use Rattle.format.specs.Open.{openRefusal};
-ghost use Rattle.text.specs.Listing.{listing, refusedLine};
+ghost use Rattle.printing.specs.Writing.{Wrote};
+ghost use Rattle.text.specs.Listing.{listing};
 ghost use Rattle.listing.specs.Printed.{printed};
-ghost use Rattle.listing.specs.Writing.{Wrote};
 
 // The room of the longest listing: the heading, and 4,096 lines of at most 22 bytes.
 pub const ROOM: usize = 26 + MOST_ENDS * 22;
@@ -22,18 +21,9 @@ pub fn list(map: &[u8], out: &mut [u8; ROOM]) -> usize
 {
     let k = opening::refusal(map);
     if k != 0 {
-        return refused(k, out);
+        return printing::refused(k, out);
     }
     put_listing(map, out)
-}
-
-// The line of refusal k. Its length.
-pub fn refused(k: u8, out: &mut [u8; ROOM]) -> usize
-    ensures { λ r. ⌜ r ≡ length (refusedLine k) ⌝ }
-    ensures { λ _. ⌜ now (out .exit) ≡ laid (refusedLine k) (now (out .entry)) ⌝ }
-{
-    let at = put_text(out, 0, b"refused ");
-    put_number(out, at, k as usize, b'\n')
 }
 
 // The heading, then the lines of all places.

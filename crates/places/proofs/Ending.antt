@@ -12,7 +12,7 @@ use mir.Syntax.{w64}
 use mir.Val.{toZ, ofZ, SFits}
 use mir.ValLaws.{toZ-ofZ}
 use Rattle.text.specs.Listing.{refusedLine, placesOf}
-use Rattle.listing.proofs.Texts.{Stands, stands-within}
+use Rattle.printing.proofs.Stands.{Stands, stands-within}
 use Rattle.places.specs.Heard.{heard}
 
 -- a signed number is tested by its bits

@@ -34,7 +34,7 @@ fn respond(text: &[u8], next: isize, out: &mut [u8; ROOM]) -> usize
     if next == 0 {
         return printout::places(text, out);
     }
-    listing::refused(17, out)
+    printing::refused(17, out)
 }
 
 fn input() -> [u8; LIMIT]

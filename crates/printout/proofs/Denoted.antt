@@ -20,7 +20,7 @@ use Rattle.text.specs.Input.{Denotes, readText}
 use Rattle.text.specs.Listing.{refusedLine, listed, packed, placesOf}
 use Rattle.text.proofs.Exact.{text-denotes}
 use Rattle.text.proofs.Short.{cut-same}
-use Rattle.listing.proofs.Texts.{Stands, stands-within}
+use Rattle.printing.proofs.Stands.{Stands, stands-within}
 
 pub record Denoted (s : List ℕ) (m : ℕ) (t k : List ℕ) : Type 0 where
   pub few : m ≤ 2048

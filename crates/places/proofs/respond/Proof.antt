@@ -1,6 +1,6 @@
 -- `places::respond` meets its contract. Assumes nothing.
 use borrow.Author.Needs.{needs}
-use Rattle.listing.proofs.Texts.{stands-as}
+use Rattle.printing.proofs.Stands.{stands-as}
 use Rattle.places.proofs.Ending.{heard-end, heard-cut}
 use Rattle.places.proofs.respond.Statement.{statement}
 use Rattle.places.proofs.respond.Tie as tie

@@ -4,7 +4,7 @@ use native.Mathlib.Omega.{arith}
 use lib.Seq.{length-take-le}
 use borrow.Author.Needs.{needs}
 use Rattle.reading.specs.Answers.{parsedMeans}
-use Rattle.listing.proofs.Texts.{stands-as}
+use Rattle.printing.proofs.Stands.{stands-as}
 use Rattle.printout.proofs.Denoted.{Denoted, read-denoted, denoted-printed, declined-printed}
 use Rattle.printout.proofs.print.places.Statement.{statement}
 use Rattle.printout.proofs.print.places.Tie as tie

@@ -4,7 +4,7 @@ use native.Mathlib.Omega.{arith}
 use lib.Seq.{length-take-le}
 use borrow.Author.Needs.{needs}
 use Rattle.drawing.specs.Laid.{lent}
-use Rattle.listing.proofs.Texts.{stands-as}
+use Rattle.printing.proofs.Stands.{stands-as}
 use Rattle.printout.proofs.Mapped.{Mapped, map-mapped, crossing-prints, declined-prints}
 use Rattle.printout.proofs.print.places_of.Statement.{statement}
 use Rattle.printout.proofs.print.places_of.Tie as tie

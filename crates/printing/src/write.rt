@@ -1,17 +1,17 @@
 // Bytes put one after the other into lent memory. Each function answers the place after them.
 ghost use mathlib.Core.Path.{_≡_};
 ghost use mathlib.Core.List.{[], _∷_, _++_};
-ghost use Prim.Native.Nat.{_+_, _<_, _≤_};
-ghost use lib.ListN.{length};
-ghost use Rattle.text.specs.Decimal.{decimal, zeroByte};
-ghost use Rattle.listing.specs.Writing.{Wrote};
+ghost use Prim.Native.Nat.{_+_, _-_, _<_, _≤_};
+ghost use lib.ListN.{length, replicate};
+ghost use Rattle.text.specs.Decimal.{space, zeroByte, decimal, aligned};
+ghost use Rattle.printing.specs.Writing.{Wrote};
 
 // A number of at most four digits, and the byte after it.
 pub fn put_number(out: &mut [u8], at: usize, x: usize, end: u8) -> usize
     requires { ⌜ (x < 10000) × (at + 5 ≤ length (now out)) ⌝ }
     ensures { λ r. ⌜ Wrote (now (out .entry)) at (decimal x ++ (end ∷ [])) r (now (out .exit)) × (r ≤ at + 5) ⌝ }
 {
-    let next = put_decimal(out, at, x);
+    let next = put_aligned(out, at, 0, x);
     put_byte(out, next, end)
 }
 
@@ -36,16 +36,38 @@ pub fn put_byte(out: &mut [u8], at: usize, b: u8) -> usize
     at + 1
 }
 
-// A number in decimal: the digits of its tenth, then its last.
-fn put_decimal(out: &mut [u8], at: usize, x: usize) -> usize
-    requires { ⌜ at + length (decimal x) ≤ length (now out) ⌝ }
-    ensures { λ r. ⌜ Wrote (now (out .entry)) at (decimal x) r (now (out .exit)) ⌝ }
+// A number in decimal, right-aligned in `width` columns: its tenth in one column less, then its last digit.
+pub fn put_aligned(out: &mut [u8], at: usize, width: usize, x: usize) -> usize
+    requires { ⌜ at + length (aligned width x) ≤ length (now out) ⌝ }
+    ensures { λ r. ⌜ Wrote (now (out .entry)) at (aligned width x) r (now (out .exit)) ⌝ }
 {
+    let ahead = one_less(width);
     if x < 10 {
-        return put_byte(out, at, digit(x));
+        let next = put_spaces(out, at, ahead);
+        return put_byte(out, next, digit(x));
     }
-    let next = put_decimal(out, at, x / 10);
+    let next = put_aligned(out, at, ahead, x / 10);
     put_byte(out, next, digit(x % 10))
+}
+
+// k spaces.
+fn put_spaces(out: &mut [u8], at: usize, k: usize) -> usize
+    requires { ⌜ at + k ≤ length (now out) ⌝ }
+    ensures { λ r. ⌜ Wrote (now (out .entry)) at (replicate k space) r (now (out .exit)) ⌝ }
+{
+    let mut i = 0;
+    while i < k {
+        out[at + i] = b' ';
+        i += 1;
+    }
+    at + i
+}
+
+// How many columns are left for what stands before the last digit.
+fn one_less(width: usize) -> usize
+    ensures { λ r. ⌜ r ≡ width - 1 ⌝ }
+{
+    if width == 0 { 0 } else { width - 1 }
 }
 
 // The byte of a digit.

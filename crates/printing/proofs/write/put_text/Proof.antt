@@ -1,9 +1,9 @@
--- `listing::write::put_text` meets its contract. Assumes nothing.
+-- `printing::write::put_text` meets its contract. Assumes nothing.
 use Prim.Native.Nat.{_-_}
 use lib.ListN.{length}
-use Rattle.listing.proofs.Writes.{Copying, copy-all}
-use Rattle.listing.proofs.write.put_text.Statement.{statement}
-use Rattle.listing.proofs.write.put_text.Tie as tie
+use Rattle.printing.proofs.Writes.{Copying, copy-all}
+use Rattle.printing.proofs.write.put_text.Statement.{statement}
+use Rattle.printing.proofs.write.put_text.Tie as tie
 
 abbrev Inv-loop : tie.InvT-loop
 Inv-loop out₀ at text i₀ out i = Copying out₀ text at i out

@@ -1,8 +1,8 @@
--- `listing::write::put_byte` meets its contract. Assumes nothing.
-use Rattle.listing.proofs.Writes.{copy-all}
+-- `printing::write::put_byte` meets its contract. Assumes nothing.
+use Rattle.printing.proofs.Writes.{copy-all}
 use borrow.Author.Needs.{needs}
-use Rattle.listing.proofs.write.put_byte.Statement.{statement}
-use Rattle.listing.proofs.write.put_byte.Tie as tie
+use Rattle.printing.proofs.write.put_byte.Statement.{statement}
+use Rattle.printing.proofs.write.put_byte.Tie as tie
 
 slice-write-out : tie.Need-slice-write-out
 slice-write-out c = search needs

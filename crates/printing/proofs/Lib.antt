@@ -1,0 +1,4 @@
+-- Text put into lent memory: laws.
+pub mod Writes
+pub mod Stands
+pub mod Shown

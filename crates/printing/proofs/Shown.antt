@@ -1,0 +1,38 @@
+-- What is printed for the bytes of a map: the text made of them, or the line of opening's refusal.
+--
+-- shown-refused == the line of the check that declines the bytes is what is printed for them
+-- shown-text    == the text of bytes that open is what is printed for them
+-- Assumes nothing.
+use mathlib.Core.Path.{_≡_, refl, sym, ap, _∙_}
+use mathlib.Core.List.{List}
+use Prim.Native.Nat.{ℕ, zero, suc}
+use Rattle.drawing.specs.Session.{answer}
+use Rattle.format.specs.Open.{openRefusal, afterRefusal, opened}
+use Rattle.text.specs.Listing.{refusedLine, shown}
+use Rattle.printing.specs.Writing.{Wrote}
+use Rattle.printing.proofs.Stands.{Stands, wrote-stands, stands-as}
+
+line-after : (f : List ℕ → List ℕ) (s : List ℕ) (k : ℕ) → (k ≡ 0 → ⊥) → shown f (afterRefusal k (answer s)) ≡ refusedLine k
+unfolding shown
+line-after f s zero n = absurd (n refl)
+line-after f s (suc k) n = refl
+
+-- f makes the text of a map, and k is opening's number for the bytes s
+module _ (f : List ℕ → List ℕ) (s : List ℕ) (k : ℕ) (e : k ≡ openRefusal s) where
+  shown-by : shown f (opened s (answer s)) ≡ shown f (afterRefusal k (answer s))
+  unfolding opened
+  shown-by = ap (λ o. shown f (afterRefusal o (answer s))) (sym e)
+
+  text-is : k ≡ 0 → shown f (opened s (answer s)) ≡ f s
+  unfolding shown
+  text-is z = shown-by ∙ ap (λ o. shown f (afterRefusal o (answer s))) z
+
+  line-is : (k ≡ 0 → ⊥) → shown f (opened s (answer s)) ≡ refusedLine k
+  line-is m = shown-by ∙ line-after f s k m
+
+  module _ (old new : List ℕ) (r : ℕ) where
+    pub shown-refused : (k ≡ 0 → ⊥) → Stands (refusedLine k) r old new → Stands (shown f (opened s (answer s))) r old new
+    shown-refused m S = stands-as old new r (refusedLine k) (shown f (opened s (answer s))) (line-is m) S
+
+    pub shown-text : k ≡ 0 → Wrote old 0 (f s) r new → Stands (shown f (opened s (answer s))) r old new
+    shown-text z W = stands-as old new r (f s) (shown f (opened s (answer s))) (text-is z) (wrote-stands old new r (f s) W)

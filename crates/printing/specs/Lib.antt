@@ -1,0 +1,2 @@
+-- Text put into lent memory: definitions.
+pub mod Writing
