@@ -6,7 +6,8 @@
 -- choose-new, choose-old == a choice between two numbers
 -- Tallying        == what the loop of `count_sides` keeps: the sides before position p are counted
 -- area-positive, sides-index, firsts-index, index-fits, sides-fit, place-fits == there is an entry for the area, and what is stored fits
--- tallied-start, tallied-more, tallied-sides, tallied-firsts == before the first place, one place more, after the last
+-- tallied-start, tallied-more == before the first place, one place more
+-- tallied-all, tallied-sides, tallied-firsts == after the last
 -- Assumes nothing.
 use mathlib.Core.Path.{_≡_, refl, sym, ap, _∙_}
 use mathlib.Core.Logic.{_≢_, inl, inr}
@@ -35,7 +36,7 @@ use Rattle.format.proofs.Openings.{cells-numbers}
 use Rattle.walking.specs.Positions.{Position}
 use Rattle.walking.proofs.Decoded.{nested, places-most}
 use Rattle.surveying.proofs.Laws.{laid-table}
-use Rattle.tallying.specs.Tallied.{sidesIn, firstsIn, Blank}
+use Rattle.tallying.specs.Tallied.{sidesIn, firstsIn, Blank, Tallied}
 
 -- ---- the first number that has a test, as far as it was met
 abbrev pub firstSeen : (ℕ → Bool) → ℕ → ℕ
@@ -216,13 +217,6 @@ module _ (s ss₀ fs₀ : List ℕ) (n : ℕ) where
       ended : p ≡ bitsA (sizeIn s)
       ended = omega (arith, T .places, T .within)
 
-      pub tallied-sides : ss ≡ laid (sidesIn s) ss₀
-      unfolding sidesIn placesIn size wordIn
-      tallied-sides =
-          let f : ℕ → ℕ = λ i. placesIn (wordIn s) Kind.area (suc i) in
-          laid-table f (areasOf s) ss₀ ss (T .sides-same) (omega (arith, areas-most s (T .opens), T .sides-room))
-          (λ i h. T .sides i h ∙ ap (count (onArea s i)) ended) (T .sides-rest)
-
       -- every area of a map with a place has one
       seen-all : (i : ℕ) → i < areasOf s → firstSeen (onArea s i) (bitsA (sizeIn s)) ≡ firstIn (wordIn s) Kind.area (suc i)
       unfolding firstIn first wordIn
@@ -239,9 +233,22 @@ module _ (s ss₀ fs₀ : List ℕ) (n : ℕ) where
                 seen-some P N (omega arith) ∙ sym (pick-no (eqb N 0) 0 (suc (find P N)) (ne-eqb N 0 m))
           ]
 
+      pub tallied-all : Tallied s ss fs
+      unfolding placesIn size wordIn
+      tallied-all =
+          record {
+            sides-at = λ i h. T .sides i h ∙ ap (count (onArea s i)) ended;
+            first-at = λ i h. T .firsts i h ∙ ap (firstSeen (onArea s i)) ended ∙ seen-all i h;
+          }
+
+      pub tallied-sides : ss ≡ laid (sidesIn s) ss₀
+      unfolding sidesIn
+      tallied-sides =
+          let f : ℕ → ℕ = λ i. placesIn (wordIn s) Kind.area (suc i) in
+          laid-table f (areasOf s) ss₀ ss (T .sides-same) (omega (arith, areas-most s (T .opens), T .sides-room)) (tallied-all .sides-at) (T .sides-rest)
+
       pub tallied-firsts : fs ≡ laid (firstsIn s) fs₀
       unfolding firstsIn
       tallied-firsts =
           let f : ℕ → ℕ = λ i. firstIn (wordIn s) Kind.area (suc i) in
-          laid-table f (areasOf s) fs₀ fs (T .firsts-same) (omega (arith, areas-most s (T .opens), T .firsts-room))
-          (λ i h. T .firsts i h ∙ ap (firstSeen (onArea s i)) ended ∙ seen-all i h) (T .firsts-rest)
+          laid-table f (areasOf s) fs₀ fs (T .firsts-same) (omega (arith, areas-most s (T .opens), T .firsts-room)) (tallied-all .first-at) (T .firsts-rest)

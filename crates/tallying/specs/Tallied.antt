@@ -3,10 +3,11 @@
 -- sidesIn s   == how many sides each area of the map s has
 -- firstsIn s  == the first place of each area
 -- Blank l     == every entry of l is 0
+-- Tallied s sides firsts == what the lists have for an area is its sides, its first place
 -- Assumes nothing.
 use mathlib.Core.Path.{_≡_}
 use mathlib.Core.List.{List}
-use Prim.Native.Nat.{ℕ, suc}
+use Prim.Native.Nat.{ℕ, suc, _<_}
 use lib.ListN.{getD}
 use Rattle.count.specs.Below.{table}
 use Rattle.drawing.specs.Drawing.{Kind}
@@ -25,3 +26,7 @@ firstsIn s = table (λ i. firstIn (wordIn s) Kind.area (suc i)) (cellsIn (sizeIn
 
 pub record Blank (l : List ℕ) : Type 0 where
   pub zero : (i : ℕ) → getD l i 0 ≡ 0
+
+pub record Tallied (s sides firsts : List ℕ) : Type 0 where
+  pub sides-at : (i : ℕ) → i < cellsIn (sizeIn s) Kind.area → getD sides i 0 ≡ placesIn (wordIn s) Kind.area (suc i)
+  pub first-at : (i : ℕ) → i < cellsIn (sizeIn s) Kind.area → getD firsts i 0 ≡ firstIn (wordIn s) Kind.area (suc i)

@@ -15,7 +15,7 @@ ghost use Rattle.format.specs.Bytes.{wordIn};
 ghost use Rattle.format.specs.Open.{openRefusal};
 ghost use Rattle.surveying.specs.Surveyed.{Numbers};
 ghost use Rattle.walking.specs.Positions.{Position};
-ghost use Rattle.tallying.specs.Tallied.{sidesIn, firstsIn, Blank};
+ghost use Rattle.tallying.specs.Tallied.{sidesIn, firstsIn, Blank, Tallied};
 
 // The most areas of a map: 2,048 borders on one point.
 pub const MOST_AREAS: usize = 2049;
@@ -25,6 +25,7 @@ pub fn tally(map: &[u8], sides: &mut [u16; MOST_AREAS], firsts: &mut [u16; MOST_
     requires { ⌜ (openRefusal (now map) ≡ 0) × Blank (now sides) × Blank (now firsts) ⌝ }
     ensures { λ _. ⌜ now (sides .exit) ≡ laid (sidesIn (now (map .entry))) (now (sides .entry)) ⌝ }
     ensures { λ _. ⌜ now (firsts .exit) ≡ laid (firstsIn (now (map .entry))) (now (firsts .entry)) ⌝ }
+    ensures { λ _. ⌜ Tallied (now (map .entry)) (now (sides .exit)) (now (firsts .exit)) ⌝ }
 {
     let mut mates = [0u16; 4096];
     let mut areas = [0u16; 4096];
@@ -39,6 +40,7 @@ fn count_sides(map: &[u8], areas: &[u16; 4096], sides: &mut [u16], firsts: &mut 
     requires { ⌜ Blank (now sides) × (2049 ≤ length (now sides)) × Blank (now firsts) × (2049 ≤ length (now firsts)) ⌝ }
     ensures { λ _. ⌜ now (sides .exit) ≡ laid (sidesIn (now (map .entry))) (now (sides .entry)) ⌝ }
     ensures { λ _. ⌜ now (firsts .exit) ≡ laid (firstsIn (now (map .entry))) (now (firsts .entry)) ⌝ }
+    ensures { λ _. ⌜ Tallied (now (map .entry)) (now (sides .exit)) (now (firsts .exit)) ⌝ }
 {
     let n = bits_a(map);
     let mut p = 0;

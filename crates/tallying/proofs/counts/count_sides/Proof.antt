@@ -2,7 +2,7 @@
 use mathlib.Core.Path.{refl}
 use Prim.Native.Nat.{_-_}
 use borrow.Author.Needs.{needs}
-use Rattle.tallying.proofs.Counting.{Tallying, tallied-start, tallied-position, area-positive, sides-index, firsts-index, index-fits, sides-fit, place-fits, tallied-more, tallied-sides, tallied-firsts}
+use Rattle.tallying.proofs.Counting.{Tallying, tallied-start, tallied-position, area-positive, sides-index, firsts-index, index-fits, sides-fit, place-fits, tallied-more, tallied-sides, tallied-firsts, tallied-all}
 use Rattle.tallying.proofs.counts.count_sides.Statement.{statement}
 use Rattle.tallying.proofs.counts.count_sides.Tie as tie
 
@@ -83,7 +83,7 @@ same-length-2 : tie.Need-same-length-2 Inv-loop μ-loop
 same-length-2 c = search needs
 
 returns : tie.Need-returns Inv-loop μ-loop
-returns c = search (tallied-sides, tallied-firsts)
+returns c = search (tallied-sides, tallied-firsts, tallied-all)
 
 pub count-sides-spec : {M : Type 1} → statement M
 count-sides-spec =

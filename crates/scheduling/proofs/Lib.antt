@@ -1,0 +1,3 @@
+-- The schedule of a map: laws.
+pub mod Columns
+pub mod Paging

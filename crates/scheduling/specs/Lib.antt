@@ -1,0 +1,2 @@
+-- The schedule of a map: definitions.
+pub mod Breaks
