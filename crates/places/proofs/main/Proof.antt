@@ -1,25 +1,19 @@
 -- `places::main` meets its contract. Assumes nothing.
 use mathlib.Core.Path.{sym}
 use lib.Seq.{length-take-le}
+use Rattle.piping.proofs.Ending.{heard-within}
 use borrow.Author.Needs.{needs}
-use Rattle.places.proofs.Ending.{heard-within}
 use Rattle.places.proofs.main.Statement.{statement}
 use Rattle.places.proofs.main.Tie as tie
 
 input-requires : tie.Need-input-requires
 input-requires c κs = search needs
 
-slice-aggregate-read-full : tie.Need-slice-aggregate-read-full
-slice-aggregate-read-full c = search needs
+slice-aggregate-read-input : tie.Need-slice-aggregate-read-input
+slice-aggregate-read-input c = search needs
 
-read-full-requires : tie.Need-read-full-requires
-read-full-requires c κs = search needs
-
-slice-aggregate-read : tie.Need-slice-aggregate-read
-slice-aggregate-read c = search needs
-
-read-requires : tie.Need-read-requires
-read-requires c κs = search needs
+read-input-requires : tie.Need-read-input-requires
+read-input-requires c κs = search needs
 
 output-requires : tie.Need-output-requires
 output-requires c κs = search needs
@@ -34,43 +28,35 @@ respond-requires : tie.Need-respond-requires
 respond-requires c κs = search needs
 
 array-share-prefix-out : tie.Need-array-share-prefix-out
-array-share-prefix-out c = heard-within _ _ _ _ _ (c .respond .ensures)
+array-share-prefix-out c = heard-within _ _ _ _ _ _ (c .respond .ensures .0) (c .respond .ensures .1)
 
-slice-aggregate-write-all : tie.Need-slice-aggregate-write-all
-slice-aggregate-write-all c = sym (length-take-le _ _ (heard-within _ _ _ _ _ (c .before .respond .ensures)))
+slice-aggregate-print : tie.Need-slice-aggregate-print
+slice-aggregate-print c =
+    let told = c .before .respond .ensures in
+    sym (length-take-le _ _ (heard-within _ _ _ _ _ _ (told .0) (told .1)))
 
-write-all-requires : tie.Need-write-all-requires
-write-all-requires c κs = search needs
+slice-aggregate-print-2 : tie.Need-slice-aggregate-print-2
+slice-aggregate-print-2 c = search needs
 
-slice-aggregate-write-all-2 : tie.Need-slice-aggregate-write-all-2
-slice-aggregate-write-all-2 c = search needs
-
-write-all-requires-2 : tie.Need-write-all-requires-2
-write-all-requires-2 c κs = search needs
+print-requires : tie.Need-print-requires
+print-requires c κs = search needs
 
 returns : tie.Need-returns
 returns c = search needs
-
-returns-2 : tie.Need-returns-2
-returns-2 c = search needs
 
 pub main-spec : {M : Type 1} → statement M
 main-spec =
     tie.close
     (tie.spec
     input-requires
-    slice-aggregate-read-full
-    read-full-requires
-    slice-aggregate-read
-    read-requires
+    slice-aggregate-read-input
+    read-input-requires
     output-requires
     array-share-prefix-text
     slice-aggregate-respond
     respond-requires
     array-share-prefix-out
-    slice-aggregate-write-all
-    write-all-requires
-    slice-aggregate-write-all-2
-    write-all-requires-2
-    returns
-    returns-2)
+    slice-aggregate-print
+    slice-aggregate-print-2
+    print-requires
+    returns)

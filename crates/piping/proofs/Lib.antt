@@ -1,0 +1,2 @@
+-- Standard input and output of a program: laws.
+pub mod Ending

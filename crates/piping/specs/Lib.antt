@@ -1,0 +1,2 @@
+-- Standard input and output of a program: definitions.
+pub mod Heard

@@ -1,2 +1,0 @@
--- The program `places`: laws.
-pub mod Ending
