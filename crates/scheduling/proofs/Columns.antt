@@ -59,8 +59,7 @@ module _ (o₀ o₁ o₂ o₃ o₄ : List ℕ) (at a b c r : ℕ) (row : Row) (h
       let l : at ≤ length o₀ = omega arith in
       let B′ = wrote-then o₀ x at a o₁ l A y b o₂ B in
       let C′ = wrote-then o₀ (x ++ y) at b o₂ l B′ z c o₃ C in
-      let D′ = wrote-then o₀ ((x ++ y) ++ z) at c o₃ l C′ (lineFeed ∷ []) r o₄ D in
-      (
+      let D′ = wrote-then o₀ ((x ++ y) ++ z) at c o₃ l C′ (lineFeed ∷ []) r o₄ D in (
         wrote-as o₀ (((x ++ y) ++ z) ++ (lineFeed ∷ [])) (rowLine row) at r o₄ (row-columns row hs hf) D′,
         omega (arith, A .next, B .next, C .next, D .next, five-columns (row .area) ha, seven-columns (row .sides) hs, seven-columns (row .first) hf),
       )

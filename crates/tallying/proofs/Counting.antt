@@ -3,6 +3,7 @@
 -- firstSeen P p   == 0 where no number below p has the test P, else 1 + the first that has
 -- first-met, first-kept, first-other == what one number more makes of it
 -- seen-all        == every area of a map with a place has one, so that at the end it is the first place
+-- blank-zeros     == a list of zeros is blank
 -- choose-new, choose-old == a choice between two numbers
 -- Tallying        == what the loop of `count_sides` keeps: the sides before position p are counted
 -- area-positive, sides-index, firsts-index, index-fits, sides-fit, place-fits == there is an entry for the area, and what is stored fits
@@ -16,7 +17,7 @@ use mathlib.Core.List.{List}
 use Prim.Native.Nat.{ℕ, suc, _+_, _-_, _*_, _≤_, _<_}
 use native.Mathlib.Omega.{arith}
 use lib.Dec.{eqb}
-use lib.ListN.{length, getD, set, length-set}
+use lib.ListN.{length, getD, set, length-set, replicate, length-replicate, getD-replicate, List·getD-eq-default}
 use lib.Seq.{getD-set-same, getD-set-other}
 use borrow.Author.Tests.{eq-eqb, ne-eqb, eqb-true, eqb-false}
 use Rattle.count.specs.Below.{pick, count, find}
@@ -252,3 +253,13 @@ module _ (s ss₀ fs₀ : List ℕ) (n : ℕ) where
       tallied-firsts =
           let f : ℕ → ℕ = λ i. firstIn (wordIn s) Kind.area (suc i) in
           laid-table f (areasOf s) fs₀ fs (T .firsts-same) (omega (arith, areas-most s (T .opens), T .firsts-room)) (tallied-all .first-at) (T .firsts-rest)
+
+-- ---- lists to begin with
+pub blank-zeros : (n : ℕ) → Blank (replicate n 0)
+blank-zeros n =
+    record {
+      zero = λ i. elim (lt-or-ge i n) [
+        | inl l ↦ getD-replicate n i 0 0 l
+        | inr g ↦ List·getD-eq-default (replicate n 0) 0 (omega (arith, length-replicate {A = ℕ} n 0))
+      ];
+    }
