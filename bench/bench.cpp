@@ -196,7 +196,7 @@ void compare_all(size_t m)
         show(rows[i].name, worst[i]);
 }
 
-// All that pmap does, each as a task on maps.
+// All that is proved, each as a task on maps.
 struct grown {
     const char *name;
     std::function<task(const maps &)> make;
@@ -210,6 +210,7 @@ std::vector<grown> all_grown()
     list.push_back({ "session, 1000 calls", [](const maps &all) { return session_task(all, 1000); } });
     list.push_back({ "pack", pack_task });
     list.push_back({ "unpack", unpack_task });
+    list.push_back({ "schedule", schedule_task });
     return list;
 }
 
@@ -295,16 +296,17 @@ int main()
     for (size_t m : { 16, 128, 1024, 2048 })
         for (int k = 0; k < KINDS; k++) {
             bytes map = make_map(kind(k), m);
-            if (!calls_agree(map) || !sessions_agree(map) || !unpacking_agrees(map))
+            if (!calls_agree(map) || !sessions_agree(map) || !unpacking_agrees(map) || !schedules_agree(map))
                 return 1;
         }
-    std::printf("all agree on every answer: %d kinds of maps, 16 to 2,048 borders, %d calls, 300 questions each; sessions of 300 calls; unpacking; refusals of both\n", KINDS, NUMBER_CALLS + 2);
+    std::printf("all agree on every answer: %d kinds of maps, 16 to 2,048 borders, %d calls, 300 questions each; sessions of 300 calls; unpacking; schedules; refusals of each\n", KINDS, NUMBER_CALLS + 2);
     for (size_t m : { 16, 128, 2048 })
         compare_all(m);
     show_sessions(2048, 1000);
     show_short_sessions();
     show_packing(2048);
     show_unpacking(2048);
+    show_schedules(2048);
     show_growth();
     return 0;
 }

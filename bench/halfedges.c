@@ -1,7 +1,8 @@
 /* (b) The same checks, then plain arrays of half-edges built from the bytes, then the answer by looking it up: of one call, of
-   all calls of a session, or of every place at once, which is the drawing. */
+   all calls of a session, of every place at once, which is the drawing, or of every area, which is the schedule. */
 #include "answers.h"
 #include "calls.h"
+#include "pages.h"
 
 enum { MOST = 4096 };
 
@@ -208,6 +209,20 @@ uint8_t halfedge_unpack(const uint8_t *map, size_t length, uint16_t *turning, si
         turning[end[p]] = end[x.step[1][p]];
     *m = (uint16_t)x.m;
     return 0;
+}
+
+size_t halfedge_schedule(const uint8_t *map, size_t length, uint8_t *out)
+{
+    struct arrays x;
+    struct pages p = begin_pages(out);
+    uint8_t status = build(map, length, &x);
+    size_t k;
+
+    if (status != 0)
+        return put_refusal(out, status);
+    for (k = 1; k <= x.m - x.n + 2; k++)
+        put_area(&p, x.size[0][k], x.m == 0 ? 0 : x.first[0][k] + 1u);
+    return end_pages(&p);
 }
 
 const struct calls halfedge_calls = {

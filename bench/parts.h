@@ -1,4 +1,4 @@
-// What the parts of the bench offer each other: sessions, packing and unpacking. The calls on a map are in bench.cpp.
+// What the parts of the bench offer each other: sessions, packing and unpacking, schedules. The calls on a map are in bench.cpp.
 #ifndef PARTS_H
 #define PARTS_H
 
@@ -14,16 +14,19 @@ using maps = std::vector<bytes>;
 // Whether pmap and the alternatives give the same, on this map and on damaged copies of it; if not, what differs is printed.
 bool sessions_agree(const bytes &map);
 bool unpacking_agrees(const bytes &map);
+bool schedules_agree(const bytes &map);
 
-// What pmap does, on one map after the other, while they are there: a session of so many calls, packing, unpacking.
+// What is proved, on one map after the other, while they are there: a session of so many calls, packing, unpacking, a schedule.
 task session_task(const maps &all, size_t calls);
 task pack_task(const maps &all);
 task unpack_task(const maps &all);
+task schedule_task(const maps &all);
 
 // The tables, on every kind of map.
 void show_sessions(size_t m, size_t calls);
 void show_short_sessions();
 void show_packing(size_t m);
 void show_unpacking(size_t m);
+void show_schedules(size_t m);
 
 #endif

@@ -3,7 +3,20 @@
 
 #include <string.h>
 
-#include "reference.h"
+#include "cards.h"
+
+void each_string(size_t most, try_bytes *try)
+{
+    struct card card;
+    size_t m, n;
+    uint64_t strings;
+    for (m = 0; m <= most; m++)
+        for (n = 1; n <= m + 1; n++)
+            for (strings = 0; strings < (uint64_t)1 << 4 * m; strings++) {
+                card_of_strings(&card, m, n, strings);
+                try(card.bytes, card.length);
+            }
+}
 
 void each_damage(const uint8_t *card, size_t length, try_bytes *try)
 {

@@ -1,4 +1,4 @@
-/* Bytes that are no map, or may be none: damaged cards, and headers about every bound. Each is handed to `try`. */
+/* Bytes that are no map, or may be none: all strings, damaged cards, headers about every bound. Each is handed to `try`. */
 #ifndef DAMAGE_H
 #define DAMAGE_H
 
@@ -9,6 +9,9 @@
 enum { MOST_BYTES = 8192 };
 
 typedef void try_bytes(const uint8_t *bytes, size_t length);
+
+/* Cards of up to `most` borders with every string of the right length, balanced or not. */
+void each_string(size_t most, try_bytes *try);
 
 /* Every prefix of a card, the card with a byte more, and every single bit of it flipped. */
 void each_damage(const uint8_t *card, size_t length, try_bytes *try);

@@ -44,23 +44,35 @@ compile() { # FILE.c..
     done
 }
 
-# The comparison itself, with a library made of the reference: nothing may differ, and with each fault something must.
-try_faults() { # FAULTS FILE.c..
+# The numbers of the faults that a file plants: those that it compares `fault` or FAULT with.
+faults_of() { # FILE.c
+    grep -oiE 'fault [!=]= [0-9]+' "$1" | grep -o '[0-9]*' | sort -nu | tr '\n' ' '
+}
+
+# The comparison itself: without a fault nothing may differ, and with each fault something must.
+try_each_fault() { # FAULTS COMMAND..
     local faults=$1 fault status
     shift
-    gcc "${flags[@]}" -o "$work/shim" "${parts[@]}" "$@"
-    check $? "the comparison can't be linked with $*"
     for fault in 0 $faults; do
-        FAULT=$fault "$work/shim" small >"$work/shim.log" 2>&1
+        FAULT=$fault "$@" >"$work/fault.log" 2>&1
         status=$?
         if [ "$fault" -eq 0 ]; then
-            [ $status -eq 0 ] || tail -n 20 "$work/shim.log"
+            [ $status -eq 0 ] || tail -n 20 "$work/fault.log"
             check $status "the comparison finds differences where there are none"
         else
-            [ $status -ne 0 ] && grep -q 'differs' "$work/shim.log"
+            [ $status -ne 0 ] && grep -q 'differs' "$work/fault.log"
             check $? "the comparison does not notice FAULT $fault"
         fi
     done
+}
+
+# The comparison with a library made of the reference.
+try_faults() { # FAULTS FILE.c..
+    local faults=$1
+    shift
+    gcc "${flags[@]}" -o "$work/shim" "${parts[@]}" "$@"
+    check $? "the comparison can't be linked with $*"
+    try_each_fault "$faults" "$work/shim" small
 }
 
 # Adds the count of a run of the comparison; a run that gives none is one failure.

@@ -2,7 +2,7 @@
 #ifndef HARM_H
 #define HARM_H
 
-#include "text.h"
+#include "bytes.h"
 
 /* Harms the text in one way; there are HARMS ways, some of them random. */
 enum { HARMS = 28 };

@@ -7,34 +7,9 @@
 #include <stdlib.h>
 #include <string.h>
 
+#include "account.h"
+
 static const char names[] = "border first second mark\n";
-
-void add_bytes(struct bytes *to, const void *from, size_t length)
-{
-    while (to->room < to->length + length) {
-        to->room = 2 * to->room + 64;
-        to->at = realloc(to->at, to->room);
-        if (to->at == NULL) abort();
-    }
-    if (length > 0) memcpy(to->at + to->length, from, length);
-    to->length += length;
-}
-
-void add_text(struct bytes *to, const char *text)
-{
-    add_bytes(to, text, strlen(text));
-}
-
-void add_number(struct bytes *to, size_t number)
-{
-    char digits[24];
-    size_t k = sizeof digits;
-    do {
-        digits[--k] = (char)('0' + number % 10);
-        number /= 10;
-    } while (number != 0);
-    add_bytes(to, digits + k, sizeof digits - k);
-}
 
 /* Four numbers or words on a line. */
 static void add_row(struct bytes *to, size_t a, size_t b, size_t c, size_t d)
@@ -114,7 +89,7 @@ static void write_listing(const struct book *b, struct bytes *out, int fault)
     }
 }
 
-void list_places(const struct bytes *text, struct bytes *out, int fault)
+void account(const struct bytes *text, struct bytes *out, int fault)
 {
     static struct drawing d;
     static struct book b;
@@ -127,7 +102,5 @@ void list_places(const struct bytes *text, struct bytes *out, int fault)
         write_listing(&b, out, fault);
         return;
     }
-    add_text(out, "refused ");
-    add_number(out, refusal);
-    add_text(out, "\n");
+    add_refusal(out, refusal);
 }
