@@ -25,6 +25,15 @@ pub fn schedule(map: &[u8], out: &mut [u8; ROOM]) -> usize
     put_schedule(map, out)
 }
 
+// The same for a C host, as `rt staticlib scheduling` gives it.
+#[no_mangle]
+pub extern "C" fn pmap_schedule_text(map: &[u8], out: &mut [u8; ROOM]) -> usize
+    ensures { λ r. ⌜ r ≡ length (scheduleOf (now (map .entry))) ⌝ }
+    ensures { λ _. ⌜ now (out .exit) ≡ laid (scheduleOf (now (map .entry))) (now (out .entry)) ⌝ }
+{
+    schedule(map, out)
+}
+
 // The schedule of a map that opens.
 fn put_schedule(map: &[u8], out: &mut [u8; ROOM]) -> usize
     requires { ⌜ openRefusal (now map) ≡ 0 ⌝ }
