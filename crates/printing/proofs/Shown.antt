@@ -3,19 +3,15 @@
 -- shown-refused == the line of the check that declines the bytes is what is printed for them
 -- shown-text    == the text of bytes that open is what is printed for them
 -- Assumes nothing.
-use mathlib.Core.Path.{_≡_, refl, sym, ap, _∙_}
+use mathlib.Core.Path.{_≡_, sym, ap, _∙_}
 use mathlib.Core.List.{List}
-use Prim.Native.Nat.{ℕ, zero, suc}
+use Prim.Native.Nat.{ℕ}
 use Rattle.drawing.specs.Session.{answer}
 use Rattle.format.specs.Open.{openRefusal, afterRefusal, opened}
 use Rattle.text.specs.Listing.{refusedLine, shown}
+use Rattle.text.proofs.Shown.{shown-line}
 use Rattle.printing.specs.Writing.{Wrote}
 use Rattle.printing.proofs.Stands.{Stands, wrote-stands, stands-as}
-
-line-after : (f : List ℕ → List ℕ) (s : List ℕ) (k : ℕ) → (k ≡ 0 → ⊥) → shown f (afterRefusal k (answer s)) ≡ refusedLine k
-unfolding shown
-line-after f s zero n = absurd (n refl)
-line-after f s (suc k) n = refl
 
 -- f makes the text of a map, and k is opening's number for the bytes s
 module _ (f : List ℕ → List ℕ) (s : List ℕ) (k : ℕ) (e : k ≡ openRefusal s) where
@@ -28,7 +24,7 @@ module _ (f : List ℕ → List ℕ) (s : List ℕ) (k : ℕ) (e : k ≡ openRef
   text-is z = shown-by ∙ ap (λ o. shown f (afterRefusal o (answer s))) z
 
   line-is : (k ≡ 0 → ⊥) → shown f (opened s (answer s)) ≡ refusedLine k
-  line-is m = shown-by ∙ line-after f s k m
+  line-is m = shown-by ∙ shown-line f s k m
 
   module _ (old new : List ℕ) (r : ℕ) where
     pub shown-refused : (k ≡ 0 → ⊥) → Stands (refusedLine k) r old new → Stands (shown f (opened s (answer s))) r old new

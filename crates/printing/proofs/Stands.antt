@@ -3,19 +3,18 @@
 -- Stands t r old new == t stands at the start of new, which is as old after it, and r is its length
 -- wrote-stands      == a text put from the first byte on stands there
 -- stands-as, stands-within == an equal text stands there too; the length is within the memory
--- refused-stands    == the line of a refusal: the word and a space, the number, a line feed
+-- refused-stands    == the line of a refusal: the word and a space, then the number and a line feed
 -- Assumes nothing.
 use mathlib.Core.Path.{_≡_, sym, ap, _∙_}
-use mathlib.Core.List.{List, [], _∷_, _++_, append-assoc}
+use mathlib.Core.List.{List, [], _∷_, _++_}
 use Prim.Native.Nat.{ℕ, _+_, _≤_}
 use native.Mathlib.Omega.{arith}
 use lib.ListN.{length, drop, length-append}
 use Rattle.drawing.specs.Laid.{laid}
-use Rattle.text.specs.Decimal.{codes, lineFeed, decimal, aligned}
+use Rattle.text.specs.Decimal.{codes, lineFeed, decimal}
 use Rattle.text.specs.Listing.{refusedLine}
-use Rattle.text.proofs.Aligned.{aligned-zero}
 use Rattle.printing.specs.Writing.{Wrote}
-use Rattle.printing.proofs.Writes.{wrote-then, wrote-as}
+use Rattle.printing.proofs.Writes.{wrote-then}
 
 abbrev pub Stands : List ℕ → ℕ → List ℕ → List ℕ → Type 0
 Stands t r old new = (r ≡ length t) × (new ≡ laid t old)
@@ -32,12 +31,8 @@ module _ (old new : List ℕ) (r : ℕ) where
   pub stands-within : (t : List ℕ) → Stands t r old new → r ≤ length new
   stands-within t S = omega (arith, S .0, ap length (S .1), length-append t (drop (length t) old))
 
-  pub refused-stands : (k a b : ℕ) (mid₁ mid₂ : List ℕ) → Wrote old 0 (codes "refused ") a mid₁ → Wrote mid₁ a (aligned 0 k) b mid₂
-      → Wrote mid₂ b (lineFeed ∷ []) r new → Stands (refusedLine k) r old new
+  pub refused-stands : (k a : ℕ) (mid : List ℕ) → Wrote old 0 (codes "refused ") a mid → Wrote mid a (decimal k ++ (lineFeed ∷ [])) r new
+      → Stands (refusedLine k) r old new
   unfolding refusedLine
-  refused-stands k a b mid₁ mid₂ W X Y =
-      let word : List ℕ = codes "refused " in
-      let D = wrote-as mid₁ (aligned 0 k) (decimal k) a b mid₂ (aligned-zero k) X in
-      let A = wrote-then old word 0 a mid₁ (omega arith) W (decimal k) b mid₂ D in
-      let B = wrote-then old (word ++ decimal k) 0 b mid₂ (omega arith) A (lineFeed ∷ []) r new Y in
-      wrote-stands (refusedLine k) (wrote-as old ((word ++ decimal k) ++ (lineFeed ∷ [])) (refusedLine k) 0 r new (append-assoc word (decimal k) (lineFeed ∷ [])) B)
+  refused-stands k a mid W Y =
+      wrote-stands (refusedLine k) (wrote-then old (codes "refused ") 0 a mid (omega arith) W (decimal k ++ (lineFeed ∷ [])) r new Y)

@@ -3,25 +3,22 @@
 -- wrote-none, wrote-byte == nothing, one byte
 -- wrote-then       == a text and another after it
 -- wrote-as         == an equal text
--- Copying          == what the loops of `put_text` and `put_spaces` keep: the first i bytes of the text stand
--- copy-start, copy-step, copy-end == before the loop, one byte more, after the loop
--- spaces-start, spaces-step, spaces-end, spaces-room == the same of spaces; the next one has room
--- one-digit, more-digits == how many bytes a number takes in its columns
--- room-tenth, room-last == the room for the tenth of a number, and for its last digit
--- wrote-small, wrote-more == a number below 10 in its columns, and another
--- plain-length     == a number in no columns, below the (n + 1)-th power of ten, takes at most n + 1 bytes
+-- Copying          == what the loop of `put_text` keeps: the first i bytes stand
+-- one-digit, more-digits == how many digits a number has
+-- room-small, room-more, room-last == the room that each digit of a number asks for
+-- wrote-small, wrote-more == a decimal number of one digit, and of more
 -- number-room, number-last, number-wrote == a number of at most four digits, and the byte after it
 -- Assumes nothing.
 use mathlib.Core.Path.{_≡_, refl, sym, ap, _∙_}
 use mathlib.Core.List.{List, [], _∷_, _++_, append-assoc}
-use Prim.Native.Nat.{ℕ, suc, _+_, _-_, _/_, _%_, _^_, _<_, _≤_}
+use Prim.Native.Nat.{ℕ, _+_, _/_, _%_, _<_, _≤_}
 use native.Mathlib.Omega.{arith}
 use native.Mathlib.Numerals.{add-one}
-use lib.ListN.{length, take, drop, set, getD, replicate, length-append, length-set, length-replicate, getD-replicate, take-append-drop}
+use lib.ListN.{length, take, drop, set, getD, length-append, length-set, take-append-drop}
 use lib.Seq.{set-split, length-take-le, drop-append-add, take-append-seam, drop-drop, take-suc, take-all}
 use borrow.Author.Needs.{needs}
-use Rattle.text.specs.Decimal.{space, zeroByte, decimal, aligned}
-use Rattle.text.proofs.Aligned.{aligned-zero, aligned-small, aligned-more}
+use Rattle.text.specs.Decimal.{decimal, zeroByte}
+use Rattle.text.proofs.Decimal.{decimal-small, decimal-more}
 use Rattle.text.proofs.Short.{decimal-length}
 use Rattle.printing.specs.Writing.{Wrote}
 
@@ -98,70 +95,48 @@ module _ (old text : List ℕ) (at : ℕ) where
 
 pub ruleset copy-all = (wrote-byte, copy-start, copy-step, copy-end, needs)
 
--- ---- spaces
-module _ (old : List ℕ) (at k : ℕ) where
-  pub spaces-start : at + k ≤ length old → Copying old (replicate k space) at 0 old
-  spaces-start h = copy-start old (replicate k space) at (omega (arith, length-replicate k space))
+-- ---- decimal numbers
+module _ (x : ℕ) where
+  one-digit : x < 10 → length (decimal x) ≡ 1
+  one-digit h = ap length (decimal-small x h)
 
-  module _ (i : ℕ) (out : List ℕ) (C : Copying old (replicate k space) at i out) where
-    pub spaces-step : i < k → Copying old (replicate k space) at (i + 1) (set out (at + i) space)
-    spaces-step h =
-        let e : getD (replicate k space) i 0 ≡ space = getD-replicate k i space 0 h in
-        rw e at (copy-step old (replicate k space) at i out C (omega (arith, length-replicate k space)))
+  more-digits : 10 ≤ x → length (decimal x) ≡ length (decimal (x / 10)) + 1
+  more-digits h = ap length (decimal-more x h) ∙ length-append (decimal (x / 10)) ((zeroByte + x % 10) ∷ [])
 
-    pub spaces-end : k ≤ i → Wrote old at (replicate k space) (at + i) out
-    spaces-end h = copy-end old (replicate k space) at i out C (omega (arith, length-replicate k space))
+-- the room that each digit asks for
+module _ (x at n : ℕ) (h : at + length (decimal x) ≤ n) where
+  pub room-small : x < 10 → at < n
+  room-small l = omega (arith, one-digit x l)
 
-    pub spaces-room : i < k → at + i < length out
-    spaces-room h = omega (arith, C .room, C .same, length-replicate k space)
+  pub room-more : 10 ≤ x → at + length (decimal (x / 10)) ≤ n
+  room-more g = omega (arith, more-digits x g)
 
-pub ruleset spaces-all = (spaces-start, spaces-step, spaces-end, spaces-room, needs)
+  pub room-last : (old mid : List ℕ) (a : ℕ) → 10 ≤ x → Wrote old at (decimal (x / 10)) a mid → length mid ≡ n → a < length mid
+  room-last old mid a g W e = omega (arith, more-digits x g, W .next)
 
--- ---- numbers in columns
-module _ (w x : ℕ) where
-  pub one-digit : x < 10 → length (aligned w x) ≡ w - 1 + 1
-  one-digit h =
-      ap length (aligned-small w x h) ∙ length-append (replicate (w - 1) space) ((zeroByte + x) ∷ []) ∙ ap (λ k. k + 1) (length-replicate (w - 1) space)
+module _ (old new : List ℕ) (at x r b : ℕ) where
+  pub wrote-small : x < 10 → b ≡ zeroByte + x → Wrote old at (b ∷ []) r new → Wrote old at (decimal x) r new
+  wrote-small h e W = wrote-as old (b ∷ []) (decimal x) at r new (ap (λ y. y ∷ []) e ∙ sym (decimal-small x h)) W
 
-  more-digits : 10 ≤ x → length (aligned w x) ≡ length (aligned (w - 1) (x / 10)) + 1
-  more-digits h = ap length (aligned-more w x h) ∙ length-append (aligned (w - 1) (x / 10)) ((zeroByte + x % 10) ∷ [])
+  pub wrote-more : (mid : List ℕ) (a : ℕ) → 10 ≤ x → at ≤ length old → b ≡ zeroByte + x % 10
+      → Wrote old at (decimal (x / 10)) a mid → Wrote mid a (b ∷ []) r new → Wrote old at (decimal x) r new
+  wrote-more mid a g h e W Y =
+      wrote-as old (decimal (x / 10) ++ (b ∷ [])) (decimal x) at r new (ap (λ y. decimal (x / 10) ++ (y ∷ [])) e ∙ sym (decimal-more x g))
+      (wrote-then old (decimal (x / 10)) at a mid h W (b ∷ []) r new Y)
 
--- the room that the parts of a number ask for; v columns are left for what stands before its last digit
-module _ (w x at n v : ℕ) (h : at + length (aligned w x) ≤ n) (e : v ≡ w - 1) where
-  pub room-tenth : 10 ≤ x → at + length (aligned v (x / 10)) ≤ n
-  room-tenth g = rw e (omega (arith, more-digits w x g))
-
-  pub room-last : (old mid : List ℕ) (a : ℕ) → 10 ≤ x → Wrote old at (aligned v (x / 10)) a mid → length mid ≡ n → a < length mid
-  room-last old mid a g W m = omega (arith, more-digits w x g, W .next, ap (λ k. length (aligned k (x / 10))) e)
-
-module _ (old new : List ℕ) (at w x r b v a : ℕ) (mid : List ℕ) (h : at ≤ length old) (e : v ≡ w - 1) where
-  pub wrote-small : x < 10 → b ≡ zeroByte + x → Wrote old at (replicate v space) a mid → Wrote mid a (b ∷ []) r new → Wrote old at (aligned w x) r new
-  wrote-small l d W Y =
-      let f : replicate v space ++ (b ∷ []) ≡ aligned w x = rw (e, d) (sym (aligned-small w x l)) in
-      wrote-as old (replicate v space ++ (b ∷ [])) (aligned w x) at r new f (wrote-then old (replicate v space) at a mid h W (b ∷ []) r new Y)
-
-  pub wrote-more : 10 ≤ x → b ≡ zeroByte + x % 10 → Wrote old at (aligned v (x / 10)) a mid → Wrote mid a (b ∷ []) r new → Wrote old at (aligned w x) r new
-  wrote-more g d W Y =
-      let f : aligned v (x / 10) ++ (b ∷ []) ≡ aligned w x = rw (e, d) (sym (aligned-more w x g)) in
-      wrote-as old (aligned v (x / 10) ++ (b ∷ [])) (aligned w x) at r new f (wrote-then old (aligned v (x / 10)) at a mid h W (b ∷ []) r new Y)
-
-pub ruleset aligned-all = (room-tenth, room-last, needs)
+pub ruleset decimal-all = (room-small, room-more, room-last, wrote-small, needs)
 
 -- ---- a number, and the byte after it
-pub plain-length : (n x : ℕ) → x < 10 ^ suc n → length (aligned 0 x) ≤ suc n
-plain-length n x h = omega (arith, ap length (aligned-zero x), decimal-length n x h)
-
 module _ (x at : ℕ) (old : List ℕ) (few : x < 10000) (h : at + 5 ≤ length old) where
-  pub number-room : at + length (aligned 0 x) ≤ length old
-  number-room = omega (arith, plain-length 3 x few)
+  pub number-room : at + length (decimal x) ≤ length old
+  number-room = omega (arith, decimal-length 3 x few)
 
-  pub number-last : (a : ℕ) (mid : List ℕ) → Wrote old at (aligned 0 x) a mid → length mid ≡ length old → a < length mid
-  number-last a mid W e = omega (arith, W .next, plain-length 3 x few)
+  pub number-last : (a : ℕ) (mid : List ℕ) → Wrote old at (decimal x) a mid → length mid ≡ length old → a < length mid
+  number-last a mid W e = omega (arith, W .next, decimal-length 3 x few)
 
-  pub number-wrote : (a r : ℕ) (mid new : List ℕ) (end : ℕ) → Wrote old at (aligned 0 x) a mid → Wrote mid a (end ∷ []) r new
+  pub number-wrote : (a r : ℕ) (mid new : List ℕ) (end : ℕ) → Wrote old at (decimal x) a mid → Wrote mid a (end ∷ []) r new
       → Wrote old at (decimal x ++ (end ∷ [])) r new × (r ≤ at + 5)
   number-wrote a r mid new end W Y =
-      let D = wrote-as old (aligned 0 x) (decimal x) at a mid (aligned-zero x) W in
-      (wrote-then old (decimal x) at a mid (omega arith) D (end ∷ []) r new Y, omega (arith, W .next, Y .next, plain-length 3 x few))
+      (wrote-then old (decimal x) at a mid (omega arith) W (end ∷ []) r new Y, omega (arith, W .next, Y .next, decimal-length 3 x few))
 
 pub ruleset number-all = (number-room, number-last, needs)

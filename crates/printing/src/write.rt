@@ -11,7 +11,7 @@ pub fn put_number(out: &mut [u8], at: usize, x: usize, end: u8) -> usize
     requires { ⌜ (x < 10000) × (at + 5 ≤ length (now out)) ⌝ }
     ensures { λ r. ⌜ Wrote (now (out .entry)) at (decimal x ++ (end ∷ [])) r (now (out .exit)) × (r ≤ at + 5) ⌝ }
 {
-    let next = put_aligned(out, at, 0, x);
+    let next = put_decimal(out, at, x);
     put_byte(out, next, end)
 }
 
@@ -36,18 +36,14 @@ pub fn put_byte(out: &mut [u8], at: usize, b: u8) -> usize
     at + 1
 }
 
-// A number in decimal, right-aligned in `width` columns: its tenth in one column less, then its last digit.
-pub fn put_aligned(out: &mut [u8], at: usize, width: usize, x: usize) -> usize
-    requires { ⌜ at + length (aligned width x) ≤ length (now out) ⌝ }
-    ensures { λ r. ⌜ Wrote (now (out .entry)) at (aligned width x) r (now (out .exit)) ⌝ }
+// A number right-aligned in `width` columns, which it fits: spaces, then the digits over the last of them.
+pub fn put_column(out: &mut [u8], at: usize, width: usize, x: usize) -> usize
+    requires { ⌜ (length (decimal x) ≤ width) × (at + width ≤ length (now out)) ⌝ }
+    ensures { λ r. ⌜ Wrote (now (out .entry)) at (aligned width x) r (now (out .exit)) × (r ≡ at + width) ⌝ }
 {
-    let ahead = one_less(width);
-    if x < 10 {
-        let next = put_spaces(out, at, ahead);
-        return put_byte(out, next, digit(x));
-    }
-    let next = put_aligned(out, at, ahead, x / 10);
-    put_byte(out, next, digit(x % 10))
+    let end = put_spaces(out, at, width);
+    put_digits(out, end, x);
+    end
 }
 
 // k spaces.
@@ -63,11 +59,31 @@ fn put_spaces(out: &mut [u8], at: usize, k: usize) -> usize
     at + i
 }
 
-// How many columns are left for what stands before the last digit.
-fn one_less(width: usize) -> usize
-    ensures { λ r. ⌜ r ≡ width - 1 ⌝ }
+// The digits of a number, the last one just before byte `end`.
+fn put_digits(out: &mut [u8], end: usize, x: usize)
+    requires { ⌜ (length (decimal x) ≤ end) × (end ≤ length (now out)) ⌝ }
+    ensures { λ _. ⌜ Wrote (now (out .entry)) (end - length (decimal x)) (decimal x) end (now (out .exit)) ⌝ }
 {
-    if width == 0 { 0 } else { width - 1 }
+    let mut i = end;
+    let mut rest = x;
+    while 10 <= rest {
+        i -= 1;
+        out[i] = digit(rest % 10);
+        rest = rest / 10;
+    }
+    out[i - 1] = digit(rest);
+}
+
+// A number in decimal: the digits of its tenth, then its last.
+fn put_decimal(out: &mut [u8], at: usize, x: usize) -> usize
+    requires { ⌜ at + length (decimal x) ≤ length (now out) ⌝ }
+    ensures { λ r. ⌜ Wrote (now (out .entry)) at (decimal x) r (now (out .exit)) ⌝ }
+{
+    if x < 10 {
+        return put_byte(out, at, digit(x));
+    }
+    let next = put_decimal(out, at, x / 10);
+    put_byte(out, next, digit(x % 10))
 }
 
 // The byte of a digit.

@@ -1,6 +1,7 @@
 -- The lines of a schedule, put column by column.
 --
--- five-columns, seven-columns == a number below 100,000 takes exactly its columns
+-- five-digits      == a number below 100,000 fits 5 columns
+-- five-columns, seven-columns == and takes exactly its columns
 -- gap-aligned      == two spaces and 5 columns are 7 columns
 -- row-wrote        == an area's line: three columns and a line feed
 -- total-wrote      == the last line
@@ -27,10 +28,13 @@ use Rattle.scheduling.specs.Breaks.{pageBreak}
 
 -- ---- columns
 module _ (x : ℕ) (l : x < 100000) where
-  pub five-columns : length (aligned 5 x) ≡ 5
+  pub five-digits : (w : ℕ) → 5 ≤ w → length (decimal x) ≤ w
+  five-digits w h = omega (arith, decimal-length 4 x (omega arith))
+
+  five-columns : length (aligned 5 x) ≡ 5
   five-columns = aligned-within 4 5 x (omega arith) (omega arith)
 
-  pub seven-columns : length (aligned 7 x) ≡ 7
+  seven-columns : length (aligned 7 x) ≡ 7
   seven-columns = aligned-within 4 7 x (omega arith) (omega arith)
 
   gap-aligned : aligned 7 x ≡ gap ++ column x

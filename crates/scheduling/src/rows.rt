@@ -1,6 +1,6 @@
 // The lines of a schedule: an area's, what stands before it on a new page, and the last.
-use printing::put_aligned;
 use printing::put_byte;
+use printing::put_column;
 use printing::put_text;
 ghost use mathlib.Core.Path.{_≡_};
 ghost use Prim.Native.Nat.{_+_, _<_, _≤_};
@@ -19,9 +19,9 @@ pub fn put_row(out: &mut [u8], at: usize, area: usize, sides: usize, first: usiz
     ensures { λ r. ⌜ Wrote (now (out .entry)) at (rowLine (record { area = area; sides = sides; first = first })) r (now (out .exit)) ⌝ }
     ensures { λ r. ⌜ r ≡ at + 20 ⌝ }
 {
-    let a = put_aligned(out, at, 5, area);
-    let b = put_aligned(out, a, 7, sides);
-    let c = put_aligned(out, b, 7, first);
+    let a = put_column(out, at, 5, area);
+    let b = put_column(out, a, 7, sides);
+    let c = put_column(out, b, 7, first);
     put_byte(out, c, b'\n')
 }
 
@@ -46,6 +46,6 @@ pub fn put_total(out: &mut [u8], at: usize, sum: usize) -> usize
     ensures { λ r. ⌜ Wrote (now (out .entry)) at (totalLine sum) r (now (out .exit)) ⌝ }
 {
     let a = put_text(out, at, b"total");
-    let b = put_aligned(out, a, 7, sum);
+    let b = put_column(out, a, 7, sum);
     put_byte(out, b, b'\n')
 }

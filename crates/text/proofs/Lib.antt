@@ -5,5 +5,6 @@ pub mod Lines
 pub mod Exact
 pub mod Short
 pub mod Aligned
+pub mod Shown
 pub mod Pages
 pub mod Schedule

@@ -42,6 +42,7 @@ use Rattle.text.specs.Statements.{LineFits, AreasDown, Answered}
 use Rattle.text.proofs.Decimal.{decimal-digits, decides-digit}
 use Rattle.text.proofs.Short.{decimal-length}
 use Rattle.text.proofs.Aligned.{aligned-within}
+use Rattle.text.proofs.Shown.{shown-line}
 use Rattle.text.proofs.Pages.{pages-down, page-full, page-last, sum-more}
 
 -- ---- the rows
@@ -173,12 +174,6 @@ module _ (s : List ℕ) (o : openRefusal s ≡ 0) (k : ℕ) where
       }
 
 -- ---- inputs longer than the longest map
--- a refusal is shown as its line, whatever the bytes are
-refused-shown : (s t : List ℕ) (k : ℕ) → k ≢ 0 → shown schedule (afterRefusal k (answer s)) ≡ shown schedule (afterRefusal k (answer t))
-unfolding shown
-refused-shown s t zero n = absurd (n refl)
-refused-shown s t (suc k) n = refl
-
 long-refusal : (t : Bool) → unless t 8 9 ≢ 0
 long-refusal true = omega arith
 long-refusal false = omega arith
@@ -191,6 +186,6 @@ schedule-cut s =
       | inl l ↦
           let cut : List ℕ = take (longest + 1) s in
           let n : openRefusal s ≢ 0 = λ e. long-refusal (sizeFits s) (sym (long-refused s l) ∙ e) in
-          ap (λ k. shown schedule (afterRefusal k (answer cut))) (open-cut s) ∙ refused-shown cut s (openRefusal s) n
+          ap (λ k. shown schedule (afterRefusal k (answer cut))) (open-cut s) ∙ shown-line schedule cut (openRefusal s) n ∙ sym (shown-line schedule s (openRefusal s) n)
       | inr g ↦ ap scheduleOf (take-all (longest + 1) s (omega arith))
     ]

@@ -4,8 +4,8 @@ use borrow.Author.Needs.{needs}
 use Rattle.printing.proofs.write.put_number.Statement.{statement}
 use Rattle.printing.proofs.write.put_number.Tie as tie
 
-put-aligned-requires : tie.Need-put-aligned-requires
-put-aligned-requires c κs = search number-all
+put-decimal-requires : tie.Need-put-decimal-requires
+put-decimal-requires c κs = search number-all
 
 put-byte-requires : tie.Need-put-byte-requires
 put-byte-requires c κs = search number-all
@@ -19,8 +19,8 @@ returns c =
     let digits = last .before .before .before .before in
     let start = digits .before .before .before in
     let a = start .args in
-    number-wrote (a .x) (a .at) (a .out .now) (start .pre .0) (start .pre .1) (digits .put-aligned .result) (last .put-byte .result) _ _ (a .end)
-    (digits .put-aligned .ensures) (last .put-byte .ensures)
+    number-wrote (a .x) (a .at) (a .out .now) (start .pre .0) (start .pre .1) (digits .put-decimal .result) (last .put-byte .result) _ _ (a .end)
+    (digits .put-decimal .ensures) (last .put-byte .ensures)
 
 pub put-number-spec : {M : Type 1} → statement M
-put-number-spec = tie.close (tie.spec put-aligned-requires put-byte-requires same-length returns)
+put-number-spec = tie.close (tie.spec put-decimal-requires put-byte-requires same-length returns)

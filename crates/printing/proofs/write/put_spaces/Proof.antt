@@ -2,7 +2,8 @@
 use Prim.Native.Nat.{_-_}
 use lib.ListN.{replicate}
 use Rattle.text.specs.Decimal.{space}
-use Rattle.printing.proofs.Writes.{Copying, spaces-all}
+use Rattle.printing.proofs.Writes.{Copying}
+use Rattle.printing.proofs.Columns.{spaces-all}
 use Rattle.printing.proofs.write.put_spaces.Statement.{statement}
 use Rattle.printing.proofs.write.put_spaces.Tie as tie
 

@@ -2,7 +2,7 @@
 use native.Mathlib.Omega.{arith}
 use borrow.Author.Needs.{needs}
 use Rattle.text.specs.Decimal.{codes}
-use Rattle.scheduling.proofs.Columns.{seven-columns, total-wrote}
+use Rattle.scheduling.proofs.Columns.{five-digits, total-wrote}
 use Rattle.scheduling.proofs.rows.put_total.Statement.{statement}
 use Rattle.scheduling.proofs.rows.put_total.Tie as tie
 
@@ -12,20 +12,16 @@ slice-aggregate-put-text c = search needs
 put-text-requires : tie.Need-put-text-requires
 put-text-requires c κs = search needs
 
-put-aligned-requires : tie.Need-put-aligned-requires
-put-aligned-requires c κs =
+put-column-requires : tie.Need-put-column-requires
+put-column-requires c κs =
     let word = c .before .before .before in
     let start = word .before .before .before .before in
-    let x = seven-columns (start .args .sum) (start .pre .0) in
-    omega (arith, word .put-text .ensures .next)
+    (five-digits (start .args .sum) (start .pre .0) 7 (omega arith), omega (arith, word .put-text .ensures .next))
 
 put-byte-requires : tie.Need-put-byte-requires
 put-byte-requires c κs =
-    let number = c .before .before .before in
-    let word = number .before .before .before .before in
-    let start = word .before .before .before .before in
-    let x = seven-columns (start .args .sum) (start .pre .0) in
-    omega (arith, word .put-text .ensures .next, number .put-aligned .ensures .next)
+    let word = c .before .before .before .before .before .before .before in
+    omega (arith, word .put-text .ensures .next)
 
 same-length : tie.Need-same-length
 same-length c = search needs
@@ -38,8 +34,8 @@ returns c =
     let word = number .before .before .before .before in
     let start = word .before .before .before .before in
     let a = start .args in
-    total-wrote (a .out .now) _ _ _ (a .at) (word .put-text .result) (number .put-aligned .result) (last .put-byte .result) (a .sum) (start .pre .0) (omega arith)
-    (word .put-text .ensures) (number .put-aligned .ensures) (last .put-byte .ensures)
+    total-wrote (a .out .now) _ _ _ (a .at) (word .put-text .result) (number .put-column .result) (last .put-byte .result) (a .sum) (start .pre .0) (omega arith)
+    (word .put-text .ensures) (number .put-column .ensures .0) (last .put-byte .ensures)
 
 pub put-total-spec : {M : Type 1} → statement M
 put-total-spec =
@@ -47,7 +43,7 @@ put-total-spec =
     (tie.spec
     slice-aggregate-put-text
     put-text-requires
-    put-aligned-requires
+    put-column-requires
     put-byte-requires
     same-length
     returns)
