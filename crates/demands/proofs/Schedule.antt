@@ -3,13 +3,13 @@
 -- schedule-rows  == the rows of the map are those of the book
 -- schedule-book  == so what `schedule` prints for the map is the schedule of the book's rows
 -- Assumes nothing.
-use mathlib.Core.Path.{_≡_, refl, sym, ap, _∙_}
+use mathlib.Core.Path.{_≡_, sym, ap, _∙_}
 use mathlib.Core.List.{List}
 use Prim.Native.Nat.{ℕ, suc, _<_}
 use native.Mathlib.Omega.{arith}
 use Rattle.count.specs.Below.{table}
 use Rattle.count.proofs.Lists.{table-same}
-use Rattle.drawing.specs.Drawing.{Drawing, Kind, borders, cells}
+use Rattle.drawing.specs.Drawing.{Drawing, Kind, cells}
 use Rattle.drawing.specs.Session.{Answer, answer, valueOf}
 use Rattle.drawing.specs.Book.{bookFirst, bookSize}
 use Rattle.format.specs.Bytes.{Size, sizeIn}

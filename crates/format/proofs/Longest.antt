@@ -4,9 +4,9 @@
 -- long-refused     == bytes longer than the longest map don't open: 8 by their header, else 9
 -- open-cut         == and so opening gives their first 1,030 bytes the number that it gives all of them
 -- Assumes nothing.
-use mathlib.Core.Path.{_≡_, refl, sym, ap, _∙_}
+use mathlib.Core.Path.{_≡_, sym, ap, _∙_}
 use mathlib.Core.Logic.{inl, inr}
-use mathlib.Core.Bool.{Bool, true, false, _&&_}
+use mathlib.Core.Bool.{true, false, _&&_}
 use mathlib.Core.List.{List}
 use Prim.Native.Nat.{ℕ, _+_, _≤_, _<_}
 use native.Mathlib.Omega.{arith}
@@ -14,7 +14,6 @@ use lib.Dec.{leb}
 use lib.ListN.{length, getD, take}
 use lib.Seq.{getD-take, length-take-le, take-all}
 use borrow.Author.Tests.{ne-eqb, le-leb}
-use Rattle.count.specs.Below.{Decides}
 use Rattle.count.proofs.Logic.{lt-or-ge, true-or-false}
 use Rattle.bits.specs.Strings.{bytesFor}
 use Rattle.drawing.specs.Drawing.{mostBorders}

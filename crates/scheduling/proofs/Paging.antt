@@ -5,13 +5,13 @@
 -- pagesMost i      == the bytes that the pages of so many areas take
 -- Paging           == what the loop of `put_pages` keeps: the pages of the first i areas stand, and their sides are added up
 -- paged-start, paged-more, paged-end == before the first area, one area more, after the last
--- sides-room, firsts-room, break-room, row-room, row-fits, sum-fits == the next line has its numbers, and room
+-- break-room, row-room == what stands before the next line has room, and so has the line
 -- total-room       == and so has the last line
 -- Assumes nothing.
 use mathlib.Core.Path.{_≡_, refl, sym, ap, _∙_}
-use mathlib.Core.Logic.{_≢_, inl, inr}
+use mathlib.Core.Logic.{inl, inr}
 use mathlib.Core.List.{List, [], _∷_, _++_, append-assoc}
-use Prim.Native.Nat.{ℕ, zero, suc, _+_, _-_, _*_, _/_, _%_, _≤_, _<_}
+use Prim.Native.Nat.{ℕ, suc, _+_, _-_, _*_, _/_, _%_, _≤_, _<_}
 use native.Mathlib.Omega.{arith}
 use native.Mathlib.Numerals.{add-one}
 use lib.ListN.{length, getD}
@@ -23,8 +23,7 @@ use Rattle.format.specs.Bytes.{sizeIn, wordIn}
 use Rattle.format.specs.Open.{openRefusal}
 use Rattle.format.specs.Calls.{cellsIn, firstIn, placesIn}
 use Rattle.format.proofs.Passes.{opens-passes}
-use Rattle.text.specs.Decimal.{lineFeed}
-use Rattle.text.specs.Schedule.{perPage, pageHeading, Row, rowOf, rowsOf, rowLine, sumOf, pagesText, totalLine, scheduleText, schedule}
+use Rattle.text.specs.Schedule.{perPage, Row, rowOf, rowsOf, rowLine, sumOf, pagesText, totalLine, scheduleText, schedule}
 use Rattle.text.proofs.Pages.{pages-first, pages-new, pages-on, sum-more}
 use Rattle.text.proofs.Schedule.{schedule-total}
 use Rattle.printing.specs.Writing.{Wrote}

@@ -2,7 +2,7 @@
 --
 -- pageBreak i == what stands before the line of area i + 1
 -- Assumes nothing.
-use mathlib.Core.List.{List, [], _∷_, _++_}
+use mathlib.Core.List.{List, [], _∷_}
 use Prim.Native.Nat.{ℕ, _%_}
 use lib.Dec.{eqb}
 use Rattle.count.specs.Below.{pick}

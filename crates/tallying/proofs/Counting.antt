@@ -6,7 +6,7 @@
 -- blank-zeros     == a list of zeros is blank
 -- choose-new, choose-old == a choice between two numbers
 -- Tallying        == what the loop of `count_sides` keeps: the sides before position p are counted
--- area-positive, sides-index, firsts-index, index-fits, sides-fit, place-fits == there is an entry for the area, and what is stored fits
+-- area-positive, sides-index, firsts-index, index-fits, sides-fit == there is an entry for the area, and what is stored fits
 -- tallied-start, tallied-more == before the first place, one place more
 -- tallied-all, tallied-sides, tallied-firsts == after the last
 -- Assumes nothing.
@@ -19,7 +19,7 @@ use native.Mathlib.Omega.{arith}
 use lib.Dec.{eqb}
 use lib.ListN.{length, getD, set, length-set, replicate, length-replicate, getD-replicate, List·getD-eq-default}
 use lib.Seq.{getD-set-same, getD-set-other}
-use borrow.Author.Tests.{eq-eqb, ne-eqb, eqb-true, eqb-false}
+use borrow.Author.Tests.{eq-eqb, ne-eqb}
 use Rattle.count.specs.Below.{pick, count, find}
 use Rattle.count.proofs.Logic.{same-or-not, lt-or-ge, true-or-false, pick-yes, pick-no}
 use Rattle.count.proofs.Below.{count-zero, count-yes, count-no, count-le, count-mono, count-before, count-none, find-is, find-has, find-not}
@@ -102,6 +102,7 @@ pub record Tallying (s ss₀ fs₀ : List ℕ) (n p : ℕ) (ss fs : List ℕ) : 
   pub opens : openRefusal s ≡ 0
   pub places : n ≡ bitsA (sizeIn s)
   pub within : p ≤ n
+  pub few : n ≤ 4096
   pub sides : (i : ℕ) → i < areasOf s → getD ss i 0 ≡ count (onArea s i) p
   pub firsts : (i : ℕ) → i < areasOf s → getD fs i 0 ≡ firstSeen (onArea s i) p
   pub sides-rest : (i : ℕ) → areasOf s ≤ i → getD ss i 0 ≡ getD ss₀ i 0
@@ -119,6 +120,7 @@ module _ (s ss₀ fs₀ : List ℕ) (n : ℕ) where
         opens = o;
         places = e;
         within = omega arith;
+        few = omega (arith, places-most s o);
         sides = λ i l. bs .zero i ∙ sym (count-zero (onArea s i));
         firsts = λ i l. bf .zero i ∙ sym (seen-none (onArea s i) 0 (count-zero (onArea s i)));
         sides-rest = λ i l. refl;
@@ -134,9 +136,6 @@ module _ (s ss₀ fs₀ : List ℕ) (n : ℕ) where
     tallied-position l =
         let m = places-most s (T .opens) in
         record { opens = T .opens; below = omega (arith, T .places); few = omega (arith, T .places) }
-
-    pub place-fits : p < n → p + 1 < 65536
-    place-fits l = omega (arith, T .places, places-most s (T .opens))
 
     -- area a has an entry
     module _ (a k : ℕ) (l : p < n) (ha : a ≡ number (seen square (wordIn s)) p) where
@@ -203,6 +202,7 @@ module _ (s ss₀ fs₀ : List ℕ) (n : ℕ) where
                 opens = T .opens;
                 places = T .places;
                 within = omega arith;
+                few = T .few;
                 sides = more-sides;
                 firsts = more-firsts;
                 sides-rest = λ i h. getD-set-other ss k i (getD ss k 0 + 1) 0 (omega (arith, index-below)) ∙ T .sides-rest i h;

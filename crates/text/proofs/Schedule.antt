@@ -4,24 +4,24 @@
 -- schedule-lines    == each area's line has exactly 19 characters and a line feed: no number needs a sixth column
 -- schedule-areas    == reading the area numbers down the pages gives 1, 2, .. m-n+2, each once
 -- schedule-answers  == the sides and the first place in an area's line are those that the calls answer
+-- scheduled         == all of these, and that what is printed is made of these rows
+-- schedule-refused  == bytes that don't open get one line, `refused` and opening's number
 -- schedule-cut      == what is printed for any bytes is what is printed for the first 1,030 of them
--- rows-length       == there is a row for each area
--- total-fits        == the last line has 12 characters and a line feed
 -- Assumes nothing.
 use mathlib.Core.Path.{_≡_, refl, sym, ap, _∙_}
 use mathlib.Core.Logic.{_≢_, inl, inr}
-use mathlib.Core.Bool.{Bool, true, false, _&&_}
-use mathlib.Core.List.{List, [], _∷_, _++_, List·Memᴰ, List·Memᴰ·append-cases, List·Memᴰ·cases-cons, List·Memᴰ·not-nil, map}
+use mathlib.Core.Bool.{Bool, true, false}
+use mathlib.Core.List.{List, _++_, List·Memᴰ, List·Memᴰ·append-cases, List·Memᴰ·cases-cons, List·Memᴰ·not-nil, map}
 use Prim.Native.Nat.{ℕ, zero, suc, _+_, _-_, _*_, _≤_, _<_}
 use native.Mathlib.Omega.{arith}
 use lib.Dec.{eqb, ltb, leb}
 use lib.ListN.{length, replicate, take, length-append}
 use lib.Seq.{take-all}
 use borrow.Author.Tests.{lt-ltb, le-leb}
-use Rattle.count.specs.Below.{pick, total, count, table}
+use Rattle.count.specs.Below.{total, table}
 use Rattle.count.proofs.Logic.{lt-or-ge, true-or-false, both, pick-yes}
 use Rattle.count.proofs.Below.{count-le, find-le}
-use Rattle.count.proofs.Lists.{table-length, table-map, table-more}
+use Rattle.count.proofs.Lists.{table-map, table-more}
 use Rattle.words.specs.Brackets.{size, first, number}
 use Rattle.words.specs.declared.family.Family.the-variants.{Square as square}
 use Rattle.words.specs.Word.{seen}
@@ -35,23 +35,19 @@ use Rattle.format.specs.Calls.{cellsIn, isNumber, firstIn, placesIn, firstOf, s
 use Rattle.format.proofs.Passes.{opens-passes}
 use Rattle.format.proofs.Openings.{cells-numbers}
 use Rattle.format.proofs.Longest.{long-refused, open-cut}
-use Rattle.text.specs.Decimal.{codes, space, lineFeed, zeroByte, decimal, isDigit, aligned}
-use Rattle.text.specs.Listing.{shown}
-use Rattle.text.specs.Schedule.{perPage, column, gap, Row, rowOf, rowsOf, rowCells, rowLine, pagesOf, sumOf, totalLine, schedule, scheduleOf}
-use Rattle.text.specs.Statements.{LineFits, AreasDown, Answered}
+use Rattle.text.specs.Decimal.{space, lineFeed, decimal, aligned}
+use Rattle.text.specs.Listing.{refusedLine, shown}
+use Rattle.text.specs.Schedule.{column, gap, Row, rowOf, rowsOf, rowCells, rowLine, sumOf, schedule, scheduleOf}
+use Rattle.text.specs.Statements.{LineFits, AreasDown, Answered, Scheduled}
 use Rattle.text.proofs.Decimal.{decimal-digits, decides-digit}
 use Rattle.text.proofs.Short.{decimal-length}
 use Rattle.text.proofs.Aligned.{aligned-within}
 use Rattle.text.proofs.Shown.{shown-line}
 use Rattle.text.proofs.Pages.{pages-down, page-full, page-last, sum-more}
 
--- ---- the rows
-pub rows-length : (s : List ℕ) → length (rowsOf s) ≡ cellsIn (sizeIn s) Kind.area
-unfolding rowsOf
-rows-length s = table-length (λ i. rowOf s (suc i)) (cellsIn (sizeIn s) Kind.area)
-
+-- ---- the sum
 -- the sides of the first n areas
-pub sum-total : (f : ℕ → Row) (n : ℕ) → sumOf (table (λ i. f (suc i)) n) ≡ total (λ k. f k .sides) n
+sum-total : (f : ℕ → Row) (n : ℕ) → sumOf (table (λ i. f (suc i)) n) ≡ total (λ k. f k .sides) n
 unfolding sumOf total table
 sum-total f zero = refl
 sum-total f (suc n) =
@@ -99,7 +95,7 @@ five-lengths : (a g b h c : List ℕ) → length (a ++ (g ++ (b ++ (h ++ c)))) �
 five-lengths a g b h c = simp length-append
 
 -- a line whose numbers are below 100,000
-pub line-fits : (r : Row) → r .area < 100000 → r .sides < 100000 → r .first < 100000 → LineFits r
+line-fits : (r : Row) → r .area < 100000 → r .sides < 100000 → r .first < 100000 → LineFits r
 unfolding rowCells rowLine column gap
 line-fits r a b c =
     let la : length (aligned 5 (r .area)) ≡ 5 = aligned-within 4 5 (r .area) (omega arith) (omega arith) in
@@ -173,6 +169,22 @@ module _ (s : List ℕ) (o : openRefusal s ≡ 0) (k : ℕ) where
         first = called _ ∙ pick-yes (isNumber (sizeIn s) Kind.area k) (answer (firstIn (wordIn s) Kind.area k)) (refused (noSuch Kind.area)) (is-area a b);
       }
 
+-- ---- what is printed
+pub scheduled : (s : List ℕ) → openRefusal s ≡ 0 → Scheduled s
+unfolding scheduleOf shown opened schedule
+scheduled s o =
+    record {
+      printed = ap (λ k. shown schedule (afterRefusal k (answer s))) o;
+      total = schedule-total s o;
+      lines = schedule-lines s o;
+      areas = schedule-areas s;
+      answers = schedule-answers s o;
+    }
+
+pub schedule-refused : (s : List ℕ) → openRefusal s ≢ 0 → scheduleOf s ≡ refusedLine (openRefusal s)
+unfolding scheduleOf opened
+schedule-refused s n = shown-line schedule s (openRefusal s) n
+
 -- ---- inputs longer than the longest map
 long-refusal : (t : Bool) → unless t 8 9 ≢ 0
 long-refusal true = omega arith
@@ -180,12 +192,11 @@ long-refusal false = omega arith
 
 -- the program reads no more than 1,030 bytes
 pub schedule-cut : (s : List ℕ) → scheduleOf (take (longest + 1) s) ≡ scheduleOf s
-unfolding scheduleOf opened
 schedule-cut s =
     elim (lt-or-ge longest (length s)) [
       | inl l ↦
           let cut : List ℕ = take (longest + 1) s in
           let n : openRefusal s ≢ 0 = λ e. long-refusal (sizeFits s) (sym (long-refused s l) ∙ e) in
-          ap (λ k. shown schedule (afterRefusal k (answer cut))) (open-cut s) ∙ shown-line schedule cut (openRefusal s) n ∙ sym (shown-line schedule s (openRefusal s) n)
+          schedule-refused cut (λ e. n (sym (open-cut s) ∙ e)) ∙ ap refusedLine (open-cut s) ∙ sym (schedule-refused s n)
       | inr g ↦ ap scheduleOf (take-all (longest + 1) s (omega arith))
     ]

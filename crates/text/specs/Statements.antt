@@ -3,19 +3,20 @@
 -- LineFits r     == the line of a row has exactly 19 characters and a line feed, and no number needs a sixth column
 -- AreasDown s    == reading the area numbers down the pages gives 1, 2, .. m-n+2; every page but the last has 50
 -- Answered s k   == the row of area k has what `sides` and `area_first` answer
+-- Scheduled s    == all that is shown of the schedule of a map that opens
 -- Assumes nothing.
 use mathlib.Core.Path.{_≡_}
 use mathlib.Core.Logic.{_≢_}
 use mathlib.Core.List.{List, [], _∷_, _++_, List·Memᴰ, map, flatten}
-use Prim.Native.Nat.{ℕ, suc, _+_, _-_, _≤_, _<_}
+use Prim.Native.Nat.{ℕ, suc, _+_, _-_, _*_, _≤_, _<_}
 use lib.ListN.{length, getD}
 use Rattle.count.specs.Below.{table}
 use Rattle.drawing.specs.Drawing.{Kind}
 use Rattle.drawing.specs.Session.{answer}
 use Rattle.format.specs.Bytes.{sizeIn}
-use Rattle.format.specs.Calls.{firstOf, sizeOf}
+use Rattle.format.specs.Calls.{cellsIn, firstOf, sizeOf}
 use Rattle.text.specs.Decimal.{lineFeed, decimal}
-use Rattle.text.specs.Schedule.{perPage, Row, rowOf, rowsOf, rowCells, rowLine, pagesOf}
+use Rattle.text.specs.Schedule.{perPage, Row, rowOf, rowsOf, rowCells, rowLine, pagesOf, sumOf, scheduleText, scheduleOf}
 
 -- 02: "each area's line has exactly 19 characters"
 pub record LineFits (r : Row) : Type 0 where
@@ -38,3 +39,12 @@ pub record Answered (s : List ℕ) (k : ℕ) : Type 0 where
   pub number : rowOf s k .area ≡ k
   pub sides : sizeOf s Kind.area k ≡ answer (rowOf s k .sides)
   pub first : firstOf s Kind.area k ≡ answer (rowOf s k .first)
+
+-- 02: "That the sum is 2m, and that each area's line has exactly 19 characters, is shown for all maps." What is printed is made
+-- of these rows and of no others.
+pub record Scheduled (s : List ℕ) : Type 0 where
+  pub printed : scheduleOf s ≡ scheduleText (rowsOf s)
+  pub total : sumOf (rowsOf s) ≡ 2 * sizeIn s .m
+  pub lines : (k : ℕ) → k ≤ cellsIn (sizeIn s) Kind.area → LineFits (rowOf s k)
+  pub areas : AreasDown s
+  pub answers : (k : ℕ) → 1 ≤ k → k ≤ cellsIn (sizeIn s) Kind.area → Answered s k

@@ -2,7 +2,7 @@
 use mathlib.Core.Path.{refl}
 use Prim.Native.Nat.{_-_}
 use borrow.Author.Needs.{needs}
-use Rattle.tallying.proofs.Counting.{Tallying, tallied-start, tallied-position, area-positive, sides-index, firsts-index, index-fits, sides-fit, place-fits, tallied-more, tallied-sides, tallied-firsts, tallied-all}
+use Rattle.tallying.proofs.Counting.{Tallying, tallied-start, tallied-position, area-positive, sides-index, firsts-index, index-fits, sides-fit, tallied-more, tallied-sides, tallied-firsts, tallied-all}
 use Rattle.tallying.proofs.counts.count_sides.Statement.{statement}
 use Rattle.tallying.proofs.counts.count_sides.Tie as tie
 
@@ -40,7 +40,7 @@ add-first-of : tie.Need-add-first-of Inv-loop μ-loop
 add-first-of c = search needs
 
 cast-first-of : tie.Need-cast-first-of Inv-loop μ-loop
-cast-first-of c = search place-fits
+cast-first-of c = search needs
 
 first-of-requires : tie.Need-first-of-requires Inv-loop μ-loop
 first-of-requires c κs = search needs
