@@ -11,7 +11,7 @@
 use mathlib.Core.Path.{_≡_, refl, sym, ap, _∙_}
 use mathlib.Core.Logic.{_≢_, inl, inr}
 use mathlib.Core.Bool.{Bool, true, false}
-use mathlib.Core.List.{List, _++_, List·Memᴰ, List·Memᴰ·append-cases, List·Memᴰ·cases-cons, List·Memᴰ·not-nil, map}
+use mathlib.Core.List.{List, [], _∷_, _++_, List·Memᴰ, List·Memᴰ·append-cases, List·Memᴰ·cases-cons, List·Memᴰ·not-nil, map}
 use Prim.Native.Nat.{ℕ, zero, suc, _+_, _-_, _*_, _≤_, _<_}
 use native.Mathlib.Omega.{arith}
 use lib.Dec.{eqb, ltb, leb}
@@ -37,7 +37,7 @@ use Rattle.format.proofs.Openings.{cells-numbers}
 use Rattle.format.proofs.Longest.{long-refused, open-cut}
 use Rattle.text.specs.Decimal.{space, lineFeed, decimal, aligned}
 use Rattle.text.specs.Listing.{refusedLine, shown}
-use Rattle.text.specs.Schedule.{column, gap, Row, rowOf, rowsOf, rowCells, rowLine, sumOf, schedule, scheduleOf}
+use Rattle.text.specs.Schedule.{column, gap, Row, rowOf, rowsOf, rowCells, rowLine, sumOf, totalLine, schedule, scheduleOf}
 use Rattle.text.specs.Statements.{LineFits, AreasDown, Answered, Scheduled}
 use Rattle.text.proofs.Decimal.{decimal-digits, decides-digit}
 use Rattle.text.proofs.Short.{decimal-length}
@@ -170,12 +170,20 @@ module _ (s : List ℕ) (o : openRefusal s ≡ 0) (k : ℕ) where
       }
 
 -- ---- what is printed
+total-length : (x : ℕ) → x < 100000 → length (totalLine x) ≡ 13
+unfolding totalLine gap column
+total-length x h =
+    let e : length (aligned 5 x) ≡ 5 = aligned-within 4 5 x (omega arith) (omega arith) in
+    let l = length-append (aligned 5 x) (lineFeed ∷ []) in
+    omega arith
+
 pub scheduled : (s : List ℕ) → openRefusal s ≡ 0 → Scheduled s
 unfolding scheduleOf shown opened schedule
 scheduled s o =
     record {
       printed = ap (λ k. shown schedule (afterRefusal k (answer s))) o;
       total = schedule-total s o;
+      total-fits = total-length (sumOf (rowsOf s)) (omega (arith, schedule-total s o, opens-passes s o .m-most));
       lines = schedule-lines s o;
       areas = schedule-areas s;
       answers = schedule-answers s o;

@@ -16,7 +16,7 @@ use Rattle.drawing.specs.Session.{answer}
 use Rattle.format.specs.Bytes.{sizeIn}
 use Rattle.format.specs.Calls.{cellsIn, firstOf, sizeOf}
 use Rattle.text.specs.Decimal.{lineFeed, decimal}
-use Rattle.text.specs.Schedule.{perPage, Row, rowOf, rowsOf, rowCells, rowLine, pagesOf, sumOf, scheduleText, scheduleOf}
+use Rattle.text.specs.Schedule.{perPage, Row, rowOf, rowsOf, rowCells, rowLine, pagesOf, sumOf, totalLine, scheduleText, scheduleOf}
 
 -- 02: "each area's line has exactly 19 characters"
 pub record LineFits (r : Row) : Type 0 where
@@ -41,10 +41,11 @@ pub record Answered (s : List ℕ) (k : ℕ) : Type 0 where
   pub first : firstOf s Kind.area k ≡ answer (rowOf s k .first)
 
 -- 02: "That the sum is 2m, and that each area's line has exactly 19 characters, is shown for all maps." What is printed is made
--- of these rows and of no others.
+-- of these rows and of no others. The last line has 12 characters and a line feed: the sum needs no sixth column.
 pub record Scheduled (s : List ℕ) : Type 0 where
   pub printed : scheduleOf s ≡ scheduleText (rowsOf s)
   pub total : sumOf (rowsOf s) ≡ 2 * sizeIn s .m
+  pub total-fits : length (totalLine (sumOf (rowsOf s))) ≡ 13
   pub lines : (k : ℕ) → k ≤ cellsIn (sizeIn s) Kind.area → LineFits (rowOf s k)
   pub areas : AreasDown s
   pub answers : (k : ℕ) → 1 ≤ k → k ≤ cellsIn (sizeIn s) Kind.area → Answered s k
