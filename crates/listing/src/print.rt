@@ -8,7 +8,7 @@ ghost use lib.ListN.{length};
 ghost use Rattle.drawing.specs.Laid.{laid};
 ghost use Rattle.format.specs.Open.{openRefusal};
 ghost use Rattle.printing.specs.Writing.{Wrote};
-ghost use Rattle.text.specs.Listing.{listing};
+ghost use Rattle.text.specs.Listing.{listing, refusedLine};
 ghost use Rattle.listing.specs.Printed.{printed};
 
 // The room of the longest listing: the heading, and 4,096 lines of at most 22 bytes.
@@ -21,9 +21,17 @@ pub fn list(map: &[u8], out: &mut [u8; ROOM]) -> usize
 {
     let k = opening::refusal(map);
     if k != 0 {
-        return printing::refused(k, out);
+        return refused(k, out);
     }
     put_listing(map, out)
+}
+
+// The line of refusal k. Its length.
+pub fn refused(k: u8, out: &mut [u8; ROOM]) -> usize
+    ensures { λ r. ⌜ r ≡ length (refusedLine k) ⌝ }
+    ensures { λ _. ⌜ now (out .exit) ≡ laid (refusedLine k) (now (out .entry)) ⌝ }
+{
+    printing::refused(k, out)
 }
 
 // The heading, then the lines of all places.

@@ -29,7 +29,7 @@ fn respond(text: &[u8], next: isize, out: &mut [u8; ROOM]) -> usize
     if next == 0 {
         return printout::places(text, out);
     }
-    printing::refused(17, out)
+    listing::refused(17, out)
 }
 
 fn input() -> [u8; LIMIT]

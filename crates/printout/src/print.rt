@@ -26,7 +26,7 @@ pub fn places(text: &[u8], out: &mut [u8; ROOM]) -> usize
             let ends = 2 * m;
             places_of(&turning[..ends], &marks[..m], out)
         }
-        Parsed::Declined(k) => printing::refused(k, out),
+        Parsed::Declined(k) => listing::refused(k, out),
     }
 }
 
@@ -40,7 +40,7 @@ fn places_of(turning: &[u16], marks: &[u8], out: &mut [u8; ROOM]) -> usize
     let mut map = [0u8; LONGEST];
     match packing::pack(turning, marks, 0, &mut work, &mut map) {
         Packed::Length(n) => listing::list(&map[..n], out),
-        Packed::Crossing(_, _) => printing::refused(7, out),
-        Packed::Declined(k) => printing::refused(k, out),
+        Packed::Crossing(_, _) => listing::refused(7, out),
+        Packed::Declined(k) => listing::refused(k, out),
     }
 }

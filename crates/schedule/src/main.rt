@@ -30,7 +30,7 @@ fn respond(map: &[u8], next: isize, out: &mut [u8; ROOM]) -> usize
     if next == 0 {
         return scheduling::schedule(map, out);
     }
-    printing::refused(8, out)
+    scheduling::refused(8, out)
 }
 
 fn input() -> [u8; LIMIT]

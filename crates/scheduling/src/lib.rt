@@ -2,6 +2,7 @@
 //
 //     schedule             the schedule of a map, or the line of the check that declines its bytes
 //     pmap_schedule_text   the same for a C host
+//     refused              the line `refused`, a space and a number
 //
 // Conventions. The text stands at the start of the memory lent, and its length is answered; the bytes after it stay as
 // they were. The memory has the room of the longest schedule. No function asks anything of its caller.
@@ -16,4 +17,5 @@ mod rows;
 
 pub use print::ROOM;
 pub use print::pmap_schedule_text;
+pub use print::refused;
 pub use print::schedule;

@@ -8,6 +8,7 @@ ghost use Rattle.drawing.specs.Laid.{laid};
 ghost use Rattle.format.specs.Open.{openRefusal};
 ghost use Rattle.printing.specs.Writing.{Wrote};
 ghost use Rattle.tallying.specs.Tallied.{Tallied};
+ghost use Rattle.text.specs.Listing.{refusedLine};
 ghost use Rattle.text.specs.Schedule.{schedule, scheduleOf};
 
 // The room of the longest schedule: 2,049 lines and 41 headings of 20 bytes, 40 empty lines, and the last line.
@@ -20,12 +21,20 @@ pub fn schedule(map: &[u8], out: &mut [u8; ROOM]) -> usize
 {
     let k = opening::refusal(map);
     if k != 0 {
-        return printing::refused(k, out);
+        return refused(k, out);
     }
     put_schedule(map, out)
 }
 
-// The same for a C host, as `rt staticlib scheduling` gives it.
+// The line of refusal k. Its length.
+pub fn refused(k: u8, out: &mut [u8; ROOM]) -> usize
+    ensures { λ r. ⌜ r ≡ length (refusedLine k) ⌝ }
+    ensures { λ _. ⌜ now (out .exit) ≡ laid (refusedLine k) (now (out .entry)) ⌝ }
+{
+    printing::refused(k, out)
+}
+
+// The schedule, or the line, for a C host, as `rt staticlib scheduling` gives it.
 #[no_mangle]
 pub extern "C" fn pmap_schedule_text(map: &[u8], out: &mut [u8; ROOM]) -> usize
     ensures { λ r. ⌜ r ≡ length (scheduleOf (now (map .entry))) ⌝ }
