@@ -1,15 +1,16 @@
 -- The schedule of a map's areas, and what the program `schedule` prints (document 02, 1/14).
 --
--- perPage         == how many areas a page has
--- column x        == x right-aligned in 5 columns
+-- perPage         == how many areas a page has; pageHeading is its first line
+-- column x        == x right-aligned in 5 columns; gap is the two spaces between columns
 -- Row             == what a line says of an area: its number, its sides, its first place
 -- rowOf s k       == the row of area k of the map s, by what `sides` and `area_first` answer
 -- rowsOf s        == the rows of all areas of the map s, in order
 -- bookRows D      == the rows that the drawing's book gives
--- rowCells r      == the 19 characters of a row's line; rowLine is the line
+-- rowCells r      == the 19 characters of a row's line; rowLine is the line, rowLines the lines of several rows
 -- pagesOf rs      == the rows of each page: 50 in order, fewer only on the last page
 -- pageText rs     == a page: the heading and the lines of its rows
 -- apart ts        == texts with an empty line between one and the next
+-- pagesText rs    == the pages of the rows so put apart
 -- sumOf rs        == the sum of the rows' sides
 -- totalLine x     == the last line, with the sum x
 -- scheduleText rs == the pages of the rows and the last line
@@ -29,7 +30,7 @@ use Rattle.format.specs.Calls.{cellsIn, firstIn, placesIn}
 use Rattle.text.specs.Decimal.{codes, lineFeed, aligned}
 use Rattle.text.specs.Listing.{shown}
 
--- 02: "Each page has a heading line, then 50 areas in order"
+-- 02: "Each page has a heading line .., then 50 areas in order"
 abbrev pub perPage : ℕ
 perPage = 50
 
