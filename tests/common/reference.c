@@ -92,12 +92,7 @@ static int marks_join(const struct drawing *d)
 
 /* ---- 7: all pairs ---- */
 
-/* The places of the even and of the odd end, the lower first. */
-struct places {
-    size_t first, second;
-};
-
-static void find_places(const struct drawing *d, struct places *of)
+void find_places(const struct drawing *d, struct places *of)
 {
     size_t i, h = d->start;
     for (i = 0; i < d->m; i++) of[i].first = of[i].second = 0;
@@ -109,40 +104,42 @@ static void find_places(const struct drawing *d, struct places *of)
     }
 }
 
-/* "a, b, a, b in the tour" */
-static int in_turns(struct places a, struct places b)
+int in_turns(struct places a, struct places b)
 {
     return a.first < b.first && b.first < a.second && a.second < b.second;
 }
 
-int alternate(const struct drawing *d, size_t a, size_t b)
+/* "whose second a has the lowest place, and among those the one whose first b has the lowest place" */
+static int comes_before(const struct places *of, struct crossing x, struct crossing y)
 {
-    struct places of[MOST_BORDERS];
-    find_places(d, of);
-    return in_turns(of[a], of[b]) || in_turns(of[b], of[a]);
+    if (of[x.a].second != of[y.a].second) return of[x.a].second < of[y.a].second;
+    return of[x.b].first < of[y.b].first;
 }
 
-static int some_alternate(const struct drawing *d)
+struct crossing first_crossing(const struct drawing *d)
 {
     struct places of[MOST_BORDERS];
-    size_t a, b;
+    struct crossing best = {0, 0}, x;
     find_places(d, of);
-    for (a = 0; a < d->m; a++)
-        for (b = 0; b < d->m; b++)
-            if (!d->marks[a] && !d->marks[b] && in_turns(of[a], of[b])) return 1;
-    return 0;
+    for (x.a = 0; x.a < d->m; x.a++)
+        for (x.b = 0; x.b < d->m; x.b++) {
+            if (d->marks[x.a] || d->marks[x.b] || !in_turns(of[x.a], of[x.b])) continue;
+            if (best.a == best.b || comes_before(of, x, best)) best = x;
+        }
+    return best;
 }
 
 uint8_t drawing_refusal(const struct drawing *d)
 {
+    struct crossing pair;
     size_t e, marks = 0;
     if (!in_range(d)) return 3;
     if (!entries_differ(d)) return 4;
     if (!marks_join(d)) return 5;
     for (e = 0; e < d->m; e++) marks += d->marks[e];
     if (marks > count_points(d) - 1) return 6;
-    if (some_alternate(d)) return 7;
-    return 0;
+    pair = first_crossing(d);
+    return pair.a != pair.b ? 7 : 0;
 }
 
 uint8_t pack_refusal(const struct lent *lent, struct drawing *d)

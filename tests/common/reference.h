@@ -2,7 +2,7 @@
  * Document 01 once more, from the drawing's side: what is wrong with a drawing or with a card, the drawing that bytes unpack
  * to, and the drawing's book with its sessions. Written from document 01 alone, and the codes of calls from include/pmap.h, so
  * that the library can be compared with it; slow and plain on purpose, and where there is a choice not in the library's
- * way: marks are followed by merging points, 7 is looked for in all pairs.
+ * way: marks are followed by merging points, the crossing of 7 is looked for among all pairs.
  */
 #ifndef REFERENCE_H
 #define REFERENCE_H
@@ -68,8 +68,21 @@ uint8_t pack_refusal(const struct lent *lent, struct drawing *d);
 size_t count_points(const struct drawing *d);
 size_t count_areas(const struct drawing *d);
 
-/* Whether borders a and b alternate in the tour of a drawing that passes 3 to 6. */
-int alternate(const struct drawing *d, size_t a, size_t b);
+/* The two places of each border in the tour of a drawing that passes 3 to 6, the lower first. */
+struct places {
+    size_t first, second;
+};
+void find_places(const struct drawing *d, struct places *of);
+
+/* "a, b, a, b in the tour" */
+int in_turns(struct places a, struct places b);
+
+/* Request 2/14, for a drawing that passes 3 to 6: of all pairs of unmarked borders that come as a, b, a, b "the alternating pair
+   whose second a has the lowest place, and among those the one whose first b has the lowest place". a == b where none do. */
+struct crossing {
+    size_t a, b;
+};
+struct crossing first_crossing(const struct drawing *d);
 
 /* The first of 8 to 12 that applies to the bytes; 0 where none does, and then the drawing that they unpack to. */
 uint8_t unpack(const uint8_t *map, size_t length, struct drawing *d);

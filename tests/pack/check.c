@@ -37,6 +37,7 @@ static const struct {
     {rooms, SOME, "working list and output one short, exact and longer"},
     {broken, SOME, "drawings that fail each of 1 to 7, alone and together"},
     {handles, SOME, "drawings not in the plane"},
+    {crossings, SOME, "drawings with crossings side by side, nested and by chance"},
     {small_maps, SOME, "all maps of up to 4 borders, unpacked and packed"},
     {random_maps, SOME, "random maps of up to 2,048 borders, unpacked and packed"},
     {damaged_maps, SOME, "damaged maps, unpacked"},

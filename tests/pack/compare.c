@@ -52,11 +52,14 @@ static void work_out(struct left *left, const struct lent *lent, uint8_t status)
     if (status == 0 || status > 3) memset(left->work, 0, 6 * lent->marks_len * sizeof *left->work);
 }
 
-/* "some pair that alternates": two unmarked borders, smaller first. */
-static int right_pair(const struct drawing *d, uint32_t packed)
+/* The status, and with 7 the first crossing above it: "The smaller number is still written first." */
+static uint32_t wanted_word(const struct drawing *d, uint8_t status)
 {
-    size_t a = PMAP_SMALLER(packed), b = PMAP_LARGER(packed);
-    return a < b && b < d->m && !d->marks[a] && !d->marks[b] && alternate(d, a, b);
+    struct crossing pair;
+    if (status != 7) return status;
+    pair = first_crossing(d);
+    if (pair.a < pair.b) return 7u | (uint32_t)pair.a << 8 | (uint32_t)pair.b << 20;
+    return 7u | (uint32_t)pair.b << 8 | (uint32_t)pair.a << 20;
 }
 
 /* By Euler's count: a drawing that passes 1 to 6 is one in the plane exactly if it has m-n+2 areas. */
@@ -66,12 +69,12 @@ static int agrees_with_areas(const struct drawing *d, uint8_t status)
     return (status == 0) == (count_areas(d) + count_points(d) == d->m + 2);
 }
 
-static void pack_differs(const struct lent *lent, const char *what, uint32_t packed, uint8_t want)
+static void pack_differs(const struct lent *lent, const char *what, uint32_t packed, uint32_t want)
 {
     char detail[400];
     size_t i;
-    int at = snprintf(detail, sizeof detail, "%s; gives %08X, wanted %u; lengths %zu %zu %zu %zu, start %zu, turning", what,
-                      (unsigned)packed, want, lent->turning_len, lent->marks_len, lent->work_len, lent->out_len, lent->start);
+    int at = snprintf(detail, sizeof detail, "%s; gives %08X, wanted %08X; lengths %zu %zu %zu %zu, start %zu, turning", what,
+                      (unsigned)packed, (unsigned)want, lent->turning_len, lent->marks_len, lent->work_len, lent->out_len, lent->start);
     for (i = 0; i < lent->turning_len && i < 12; i++) at += sprintf(detail + at, " %u", lent->turning[i]);
     at += sprintf(detail + at, ", marks");
     for (i = 0; i < lent->marks_len && i < 6; i++) at += sprintf(detail + at, " %u", lent->marks[i]);
@@ -97,8 +100,8 @@ size_t compare_pack(const struct lent *lent, uint8_t *map)
     work_out(&left, lent, status);
     if (status == 0 && packed == 0) memcpy(map, out, left.length);
 
-    if (PMAP_STATUS(packed) != status || (status != 7 && packed != status)) wrong = "another status";
-    else if (status == 7 && !right_pair(&drawing, packed)) wrong = "the pair is not one that alternates, smaller first";
+    if (PMAP_STATUS(packed) != status) wrong = "another status";
+    else if (packed != wanted_word(&drawing, status)) wrong = "another pair than the first crossing, or one beside another status";
     if (!take_back(&turning_loan, lent->turning)) wrong = "the turning list was changed";
     if (!take_back(&marks_loan, lent->marks)) wrong = "the marks were changed";
     if (!take_back(&work_loan, left.work)) wrong = "the working list is not as it must be";
@@ -107,7 +110,7 @@ size_t compare_pack(const struct lent *lent, uint8_t *map)
     if (!agrees_with_areas(&drawing, status)) wrong = "the reference does not agree with the number of areas";
     compared_one();
     if (wrong == NULL) seen_once(status);
-    else pack_differs(lent, wrong, packed, status);
+    else pack_differs(lent, wrong, packed, wanted_word(&drawing, status));
     return status == 0 && wrong == NULL ? left.length : 0;
 }
 

@@ -14,6 +14,9 @@ void two_borders(void);
 void more_borders(void);
 void rooms(void);
 
+/* crossings.c: from tours */
+void crossings(void);
+
 /* maps.c: from bytes */
 void small_maps(void);
 void random_maps(void);

@@ -65,22 +65,58 @@ static uint32_t carry(uint8_t status, size_t a, size_t b)
     return status | (uint32_t)a << 8 | (uint32_t)b << 20;
 }
 
+static int lower(size_t x, size_t y, size_t then_x, size_t then_y)
+{
+    return x != y ? x < y : then_x < then_y;
+}
+
+static size_t smaller_of(struct crossing x)
+{
+    return x.a < x.b ? x.a : x.b;
+}
+
+static size_t larger_of(struct crossing x)
+{
+    return x.a < x.b ? x.b : x.a;
+}
+
+/* Of two pairs a, b, a, b whether x is to be carried rather than y. */
+static int comes_first(const struct places *of, struct crossing x, struct crossing y)
+{
+    struct places xa = of[x.a], xb = of[x.b], ya = of[y.a], yb = of[y.b];
+    if (FAULT == 46) return lower(smaller_of(x), smaller_of(y), x.a + x.b, y.a + y.b); /* the lowest border numbers */
+    if (FAULT == 47) return lower(xa.second, ya.second, yb.first, xb.first);           /* for b the top of the stack */
+    if (FAULT == 48) return lower(xa.first, ya.first, xb.first, yb.first);             /* the lowest first a */
+    if (FAULT == 49) return lower(ya.second, xa.second, xb.first, yb.first);           /* from the last place of the tour */
+    if (FAULT == 50) return lower(xa.second, ya.second, xb.second, yb.second);         /* the lowest second b */
+    return lower(xa.second, ya.second, xb.first, yb.first);
+}
+
+/* The pair to carry, of those with so many marked borders that come in turns. */
+static struct crossing choose_pair(size_t marks)
+{
+    struct places of[MOST_BORDERS];
+    struct crossing best = {0, 0}, x;
+    find_places(&drawing, of);
+    for (x.a = 0; x.a < drawing.m; x.a++)
+        for (x.b = 0; x.b < drawing.m; x.b++) {
+            if ((size_t)drawing.marks[x.a] + drawing.marks[x.b] != marks || !in_turns(of[x.a], of[x.b])) continue;
+            if (best.a == best.b || comes_first(of, x, best)) best = x;
+        }
+    return best;
+}
+
 static uint32_t with_pair(uint8_t status)
 {
-    size_t a, b, marks;
+    struct crossing pair;
     if (FAULT == 41 && status == 5) return carry(5, 1, 0); /* a border beside another refusal */
     if (status != 7) return status;
     if (FAULT == 42) return 7; /* no pair */
-    for (a = 0; a < drawing.m; a++)
-        for (b = a + 1; b < drawing.m; b++) {
-            marks = (size_t)drawing.marks[a] + drawing.marks[b];
-            if (FAULT == 44 && marks == 0) return carry(7, a, b); /* a pair that need not alternate */
-            if (marks == 2 || !alternate(&drawing, a, b)) continue;
-            if (FAULT == 45 && marks == 1) return carry(7, a, b); /* a marked border in the pair */
-            if (FAULT == 43 && marks == 0) return carry(7, b, a); /* larger first */
-            if (marks == 0) return carry(7, a, b);
-        }
-    return 7;
+    pair = choose_pair(0);
+    if (FAULT == 43) return carry(7, larger_of(pair), smaller_of(pair));                   /* larger first */
+    if (FAULT == 44) pair.b = pair.a > 0 ? pair.a - 1 : pair.a + 1;                        /* a pair that need not alternate */
+    if (FAULT == 45 && choose_pair(1).a != choose_pair(1).b) pair = choose_pair(1);        /* a marked border in the pair */
+    return carry(7, smaller_of(pair), larger_of(pair));
 }
 
 /* ---- packing: memory ---- */

@@ -4,6 +4,7 @@
 -- decides-not        == the negation of a test decides the negation
 -- decides-both       == s && t decides the pair
 -- decides-all        == a test of each x < n decides "for every x < n"
+-- decides-any        == and "for some x < n"
 -- decides-as         == a test decides what is equivalent to what it decides
 -- decides-refutes    == a test that fails refutes what it decides
 -- Assumes nothing.
@@ -12,9 +13,9 @@ use mathlib.Core.Bool.{Bool, true, false, not, _&&_}
 use Prim.Native.Nat.{ℕ, _≤_, _<_}
 use lib.Dec.{eqb, leb, ltb}
 use borrow.Author.Tests.{eqb-true, leb-true, ltb-true, eq-eqb, le-leb, lt-ltb, not-true}
-use Rattle.count.specs.Below.{Decides, all}
+use Rattle.count.specs.Below.{Decides, all, any}
 use Rattle.count.proofs.Logic.{true-not-false, both, both-left, both-right}
-use Rattle.count.proofs.Search.{all-has, all-from}
+use Rattle.count.proofs.Search.{all-has, all-from, any-has, any-from}
 
 pub decides-eq : (a b : ℕ) → Decides (eqb a b) (a ≡ b)
 decides-eq a b = record { sound = eqb-true a b; complete = eq-eqb a b }
@@ -48,4 +49,11 @@ decides-all t P n d =
     record {
       sound = λ h x b. d x b .sound (all-has t n h x b);
       complete = λ f. all-from t n (λ x b. d x b .complete (f x b));
+    }
+
+pub decides-any : (t : ℕ → Bool) (P : ℕ → Type 0) (n : ℕ) → ((x : ℕ) → x < n → Decides (t x) (P x)) → Decides (any t n) ((x : ℕ) × (x < n) × P x)
+decides-any t P n d =
+    record {
+      sound = λ h. let r = any-has t n h in (r .0, r .1, d (r .0) (r .1) .sound (r .2));
+      complete = λ f. any-from t n (f .0) (f .1) (d (f .0) (f .1) .complete (f .2));
     }

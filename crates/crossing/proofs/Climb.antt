@@ -7,25 +7,30 @@
 -- Assumes nothing.
 use mathlib.Core.Path.{_≡_, sym, ap, _∙_}
 use mathlib.Core.Logic.{inl, inr}
-use mathlib.Core.List.{List}
-use Prim.Native.Nat.{ℕ, _+_, _-_, _*_, _<_, _≤_}
+use mathlib.Core.List.{List, [], _∷_}
+use Prim.Native.Nat.{ℕ, _+_, _-_, _*_, _<_, _≤_, min, max}
 use native.Mathlib.Omega.{arith}
 use borrow.Author.Needs.{needs}
-use borrow.Author.Tests.{lt-ltb, le-ltb}
 use lib.ListN.{length, getD}
 use mir.Syntax.{w64}
 use mir.Val.{Fits}
 use Rattle.count.proofs.Logic.{same-or-not}
 use Rattle.touring.specs.Working.{borderIn}
-use Rattle.crossing.specs.declared.find.Found.the-variants as the-case
-use Rattle.crossing.specs.Finding.{Stands, Above, placeIn, smallerFirst}
+use Rattle.drawing.specs.Checks.{smallerFirst}
+use Rattle.crossing.specs.Finding.{Stands, Above, placeIn}
 
 -- ---- pair
-pub pair-below : (a b : ℕ) → a < b → the-case.Pair a b ≡ smallerFirst a b
-pair-below a b l = rw (lt-ltb a b l)
+pub pair-below : (a b : ℕ) → a < b → a ∷ b ∷ [] ≡ smallerFirst a b
+pair-below a b l =
+    let x : a ≡ min a b = omega arith in
+    let y : b ≡ max a b = omega arith in
+    rw (← x, ← y)
 
-pub pair-not : (a b : ℕ) → b ≤ a → the-case.Pair b a ≡ smallerFirst a b
-pair-not a b l = rw (le-ltb a b l)
+pub pair-not : (a b : ℕ) → b ≤ a → b ∷ a ∷ [] ≡ smallerFirst a b
+pair-not a b l =
+    let x : b ≡ min a b = omega arith in
+    let y : a ≡ max a b = omega arith in
+    rw (← x, ← y)
 
 pub ruleset pair-all = (pair-below, pair-not, needs)
 

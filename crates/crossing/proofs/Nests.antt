@@ -1,25 +1,30 @@
--- Why a stack finds two borders that alternate.
+-- Why a stack finds the first two borders that alternate.
 --
 -- two-places       == a border has two places
 -- Open ms t p q    == q is the one place before p of an unmarked border
 -- Stacked ms places t p k st == the places open at p stand on the stack st of k, the latest on top, and whatever closed before p was on top
 -- stacked-start, stacked-skip, stacked-push, stacked-pop == from one position to the next
+-- borderTour ms places t == the borders along t, as the search for the first crossing reads them
 -- stacked-none     == at the end no two unmarked borders alternate
--- stacked-open     == the first place of a border that closes is open, and so on the stack
--- stacked-crosses  == a border that closes and is not on top alternates with the one above it
+-- stacked-there    == the first place of a border that closes is on the stack
+-- stacked-lowest   == the first border that closes and is not on top, and the one above it, are the first pair that alternates
 -- Assumes nothing.
-use mathlib.Core.Path.{_≡_, refl, sym, ap, _∙_}
+use mathlib.Core.Path.{_≡_, sym, ap, _∙_}
 use mathlib.Core.Logic.{_≢_, inl, inr}
+use mathlib.Core.Bool.{true, not}
 use mathlib.Core.List.{List}
 use Prim.Native.Nat.{ℕ, _+_, _<_, _≤_}
 use native.Mathlib.Omega.{arith}
+use lib.Dec.{eqb}
 use lib.ListN.{getD}
+use borrow.Author.Tests.{ne-eqb, eqb-false, not-true}
 use Rattle.count.proofs.Logic.{same-or-not, lt-or-ge}
 use Rattle.count.proofs.Below.{injective-onto}
 use Rattle.orbits.specs.Cycles.{Permutes}
 use Rattle.drawing.specs.Drawing.{border, other}
 use Rattle.drawing.proofs.Ends.{other-below, other-border, other-moves, border-two}
-use Rattle.touring.specs.Working.{Crosses}
+use Rattle.drawing.specs.Checks.{Tour}
+use Rattle.drawing.proofs.Crossing.{Alternates, Lowest}
 
 pub two-places : (places : ℕ) (t : ℕ → ℕ) → Permutes places t → (f g h : ℕ) → f < places → g < places → h < places
     → border (t f) ≡ border (t h) → border (t g) ≡ border (t h) → f ≢ h → g ≢ h → f ≡ g
@@ -185,73 +190,117 @@ module _ (ms : List ℕ) (places : ℕ) (t : ℕ → ℕ) where
                   ];
             }
 
-  module _ (P : Permutes places t) (p k : ℕ) (st : ℕ → ℕ) (S : Stacked ms places t p k st) where
-    pub stacked-none : places ≤ p → (a b : ℕ) → Crosses ms places t a b → ⊥
-    stacked-none l a b X =
-        let s : ℕ = X .s in
-        S .nests (X .p) (X .q) (X .r) (X .p-q) (X .q-r) (omega (arith, X .r-s, X .s-end)) (X .at-p ∙ sym (X .at-r))
-        (λ e. X .first-unmarked (ap (λ i. getD ms i 0) (sym (X .at-p)) ∙ e))
-        (record {
-          before = X .q-r;
-          unmarked = λ e. X .second-unmarked (ap (λ i. getD ms i 0) (sym (X .at-q)) ∙ e);
-          only = λ r h e.
-              two-places places t P r (X .q) (X .s) (omega (arith, X .r-s, X .s-end)) (omega (arith, X .q-r, X .r-s, X .s-end)) (X .s-end)
-              (e ∙ X .at-q ∙ sym (X .at-s))
-              (X .at-q ∙ sym (X .at-s))
-              (omega (arith, X .r-s))
-              (omega (arith, X .q-r, X .r-s));
-        })
+  -- the borders along t, as the search reads them
+  abbrev pub borderTour : Tour
+  borderTour = record { size = places; at = λ p. border (t p); unmarked = λ e. not (eqb (getD ms e 0) 1) }
 
-    module _ (l : p < places) (u : getD ms (border (t p)) 0 ≢ 1) (q : ℕ) (h : q < p) (e : border (t q) ≡ border (t p)) where
-      pub stacked-open : Open ms t p q
-      stacked-open =
-          record {
-            before = h;
-            unmarked = λ m. u (ap (λ i. getD ms i 0) (sym e) ∙ m);
-            only = λ r b f. two-places places t P r q p (omega arith) (omega arith) l (f ∙ e) e (omega arith) (omega arith);
-          }
+  unmarked-from : (e : ℕ) → not (eqb (getD ms e 0) 1) ≡ true → getD ms e 0 ≢ 1
+  unmarked-from e u = eqb-false (getD ms e 0) 1 (not-true (eqb (getD ms e 0) 1) u)
 
-      pub stacked-there : (i : ℕ) × (i < k) × (st i ≡ q)
-      stacked-there = S .holds q stacked-open
+  unmarked-to : (e : ℕ) → getD ms e 0 ≢ 1 → not (eqb (getD ms e 0) 1) ≡ true
+  unmarked-to e d = ap not (ne-eqb (getD ms e 0) 1 d)
 
-    pub stacked-crosses : (m : ℕ) → places ≡ m + m → p < places → getD ms (border (t p)) 0 ≢ 1 → (i : ℕ) → i + 1 < k → border (t (st i)) ≡ border (t p)
-        → Crosses ms places t (border (t p)) (border (t (st (i + 1))))
-    stacked-crosses m even l u i b e =
-        let bi : i < k = omega arith in
-        let q : ℕ = st i in
-        let y : ℕ = st (i + 1) in
-        let O : Open ms t p q = S .opened i bi in
-        let Y : Open ms t p y = S .opened (i + 1) b in
-        let up : q < y = S .rising i (i + 1) (omega arith) b in
-        let by : y < places = omega (arith, Y .before) in
-        -- they are two borders
-        let two : border (t p) ≢ border (t y)
-        = λ f. (let s : y ≡ q = O .only y (Y .before) (sym f ∙ sym e) in omega arith) in
-        -- the other place of the border above
-        let other-there : other (t y) < places = rw even (other-double m (t y) (rw even at (P .below y by))) in
-        let s = injective-onto t places (P .below) (P .injective) (other (t y)) other-there in
-        let same : border (t (s .0)) ≡ border (t y) = ap border (s .2) ∙ other-border (t y) in
-        let away : s .0 ≢ y = λ f. other-moves (t y) (sym (s .2) ∙ ap t f) in
-        let late : p ≤ s .0 =
-        elim (lt-or-ge (s .0) p) [ inl h ↦ absurd (away (Y .only (s .0) h same)) | inr g ↦ g ] in
-        let not-here : s .0 ≢ p = λ f. two (ap (λ x. border (t x)) (sym f) ∙ same) in
+  module _ (P : Permutes places t) where
+    -- b of a pair a, b, a, b is open where a comes again
+    alternates-open : (r q : ℕ) → q < r → Alternates borderTour r q → Open ms t r q
+    alternates-open r q l X =
         record {
-          two = two;
-          first-unmarked = u;
-          second-unmarked = Y .unmarked;
-          p = q;
-          q = y;
-          r = p;
-          s = s .0;
-          p-q = up;
-          q-r = Y .before;
-          r-s = omega arith;
-          s-end = s .1;
-          at-p = e;
-          at-q = refl;
-          at-r = refl;
-          at-s = same;
+          before = l;
+          unmarked = unmarked-from (border (t q)) (X .b-unmarked);
+          only = λ x h e.
+              two-places places t P x q (X .s) (omega (arith, X .r-s, X .s-end)) (omega (arith, X .r-s, X .s-end)) (X .s-end)
+              (e ∙ sym (X .at-s))
+              (sym (X .at-s))
+              (omega (arith, X .r-s))
+              (omega (arith, X .r-s));
         }
-      where
-        other-double : (m h : ℕ) → h < m + m → other h < m + m
-        other-double m h b = omega (arith, other-below m h (omega arith))
+
+    module _ (p k : ℕ) (st : ℕ → ℕ) (S : Stacked ms places t p k st) where
+      stacked-quiet : (r q : ℕ) → q < r → Alternates borderTour r q → r < p → ⊥
+      stacked-quiet r q l X b =
+          S .nests (X .p) q r (X .p-q) l b (X .at-p)
+          (λ m. unmarked-from (border (t r)) (X .a-unmarked) (ap (λ e. getD ms e 0) (sym (X .at-p)) ∙ m))
+          (alternates-open r q l X)
+
+      pub stacked-none : places ≤ p → (r q : ℕ) → q < r → Alternates borderTour r q → ⊥
+      stacked-none g r q l X = stacked-quiet r q l X (omega (arith, X .r-s, X .s-end))
+
+      module _ (l : p < places) (u : getD ms (border (t p)) 0 ≢ 1) where
+        module _ (q : ℕ) (h : q < p) (e : border (t q) ≡ border (t p)) where
+          stacked-open : Open ms t p q
+          stacked-open =
+              record {
+                before = h;
+                unmarked = λ m. u (ap (λ i. getD ms i 0) (sym e) ∙ m);
+                only = λ r b f. two-places places t P r q p (omega arith) (omega arith) l (f ∙ e) e (omega arith) (omega arith);
+              }
+
+          pub stacked-there : (i : ℕ) × (i < k) × (st i ≡ q)
+          stacked-there = S .holds q stacked-open
+
+        module _ (m : ℕ) (even : places ≡ m + m) (i : ℕ) (b : i + 1 < k) (e : border (t (st i)) ≡ border (t p)) where
+          bi : i < k
+          bi = omega arith
+
+          stacked-alternates : Alternates borderTour p (st (i + 1))
+          stacked-alternates =
+              let q : ℕ = st i in
+              let y : ℕ = st (i + 1) in
+              let O : Open ms t p q = S .opened i bi in
+              let Y : Open ms t p y = S .opened (i + 1) b in
+              let up : q < y = S .rising i (i + 1) (omega arith) b in
+              let by : y < places = omega (arith, Y .before) in
+              -- they are two borders
+              let two : border (t p) ≢ border (t y)
+              = λ f. (let s : y ≡ q = O .only y (Y .before) (sym f ∙ sym e) in omega arith) in
+              -- the other place of the border above
+              let other-there : other (t y) < places = rw even (other-double m (t y) (rw even at (P .below y by))) in
+              let s = injective-onto t places (P .below) (P .injective) (other (t y)) other-there in
+              let same : border (t (s .0)) ≡ border (t y) = ap border (s .2) ∙ other-border (t y) in
+              let away : s .0 ≢ y = λ f. other-moves (t y) (sym (s .2) ∙ ap t f) in
+              let late : p ≤ s .0 =
+              elim (lt-or-ge (s .0) p) [ inl h ↦ absurd (away (Y .only (s .0) h same)) | inr g ↦ g ] in
+              let not-here : s .0 ≢ p = λ f. two (ap (λ x. border (t x)) (sym f) ∙ same) in
+              record {
+                a-unmarked = unmarked-to (border (t p)) u;
+                b-unmarked = unmarked-to (border (t y)) (Y .unmarked);
+                two = two;
+                p = q;
+                s = s .0;
+                p-q = up;
+                r-s = omega arith;
+                s-end = s .1;
+                at-p = e;
+                at-s = same;
+              }
+            where
+              other-double : (m h : ℕ) → h < m + m → other h < m + m
+              other-double m h b = omega (arith, other-below m h (omega arith))
+
+          -- every b that alternates with the border at p stands on the stack, above it
+          stacked-least : (y : ℕ) → y < p → Alternates borderTour p y → st (i + 1) ≤ y
+          stacked-least y h X =
+              let j = S .holds y (alternates-open p y h X) in
+              let first : X .p ≡ st i
+              = S .opened i bi .only (X .p) (omega (arith, X .p-q)) (X .at-p ∙ sym e) in
+              elim (lt-or-ge i (j .0)) [
+                | inl above ↦
+                    elim (same-or-not (i + 1) (j .0)) [
+                      | inl s ↦ omega (arith, ap st s, j .2)
+                      | inr d ↦ omega (arith, S .rising (i + 1) (j .0) (omega arith) (j .1), j .2)
+                    ]
+                | inr g ↦
+                    elim (same-or-not (j .0) i) [
+                      | inl s ↦ absurd (omega (arith, ap st s, j .2, X .p-q))
+                      | inr d ↦ absurd (omega (arith, S .rising (j .0) i (omega arith) bi, j .2, X .p-q))
+                    ]
+              ]
+
+          pub stacked-lowest : Lowest borderTour p (st (i + 1))
+          stacked-lowest =
+              record {
+                before = S .opened (i + 1) b .before;
+                alternates = stacked-alternates;
+                least-r = λ x y h X. elim (lt-or-ge x p) [ inl c ↦ absurd (stacked-quiet x y h X c) | inr g ↦ g ];
+                least-q = stacked-least;
+              }

@@ -6,27 +6,28 @@
 use mathlib.Core.Path.{_≡_, refl, sym, ap, _∙_}
 use mathlib.Core.Logic.{_≢_, inl, inr}
 use mathlib.Core.Bool.{Bool, true}
-use mathlib.Core.List.{List}
+use mathlib.Core.List.{List, []}
 use Prim.Native.Nat.{ℕ, _+_, _-_, _*_, _<_, _≤_}
 use native.Mathlib.Omega.{arith}
 use borrow.Author.Needs.{needs}
-use borrow.Author.Tests.{lt-ltb, le-ltb, eq-eqb, eqb-true}
+use borrow.Author.Tests.{eq-eqb, eqb-true}
 use lib.Dec.{eqb}
 use lib.ListN.{length, getD, set}
 use lib.Seq.{getD-set-same, getD-set-other}
 use mir.Syntax.{w16, w64}
 use mir.Val.{Fits}
 use Rattle.count.specs.Below.{any, pick}
-use Rattle.count.proofs.Logic.{lt-or-ge, true-or-false}
+use Rattle.count.proofs.Logic.{true-or-false}
 use Rattle.count.proofs.Below.{any-has, any-from}
 use Rattle.drawing.specs.Drawing.{border}
+use Rattle.drawing.specs.Checks.{Tour, smallerFirst, crossingIn}
 use Rattle.drawing.proofs.Ends.{border-below}
+use Rattle.drawing.proofs.Crossing.{Lowest, crosses-none, crossing-in-is, crossing-in-none}
 use Rattle.crossing.specs.declared.find.Found.{Found}
-use Rattle.crossing.specs.declared.find.Found.the-variants as the-case
-use Rattle.touring.specs.Working.{Outside, Charted, Crosses, tourIn, borderIn, met}
-use Rattle.crossing.specs.Finding.{Finds, Stands, Above, placeIn, smallerFirst}
+use Rattle.touring.specs.Working.{Outside, Charted, tourIn, borderIn, met}
+use Rattle.crossing.specs.Finding.{foundMeans, charted, Stands, Above, placeIn}
 use Rattle.touring.proofs.Outside.{outside-none, outside-set}
-use Rattle.crossing.proofs.Nests.{Stacked, stacked-start, stacked-skip, stacked-push, stacked-pop, stacked-none, stacked-there, stacked-crosses}
+use Rattle.crossing.proofs.Nests.{Stacked, stacked-start, stacked-skip, stacked-push, stacked-pop, stacked-none, stacked-there, stacked-lowest}
 
 -- ---- find_crossing
 abbrev pub double : List ℕ → ℕ
@@ -54,8 +55,10 @@ module _ (ms old : List ℕ) (C : Charted (double ms) old) where
     pub nesting-outside : Outside (2 * double ms) (3 * double ms) old w
     nesting-outside = N .outside
 
-    pub nesting-none : places ≤ p → (a b : ℕ) → Crosses ms places (tourIn old) a b → ⊥
-    nesting-none l = stacked-none ms places (tourIn old) (C .once) p k (placeIn places w) (N .stack) l
+    pub nesting-none : places ≤ p → [] ≡ crossingIn (charted ms old)
+    nesting-none l =
+        let T : Tour = charted ms old in
+        sym (crossing-in-none T (crosses-none T (stacked-none ms places (tourIn old) (C .once) p k (placeIn places w) (N .stack) l)))
 
     -- what is read of the first two thirds is as it was
     same-read : (i : ℕ) → i < 2 * places → getD w i 0 ≡ getD old i 0
@@ -192,21 +195,18 @@ module _ (ms old : List ℕ) (C : Charted (double ms) old) where
                       is-there = at-i;
                     }
 
-                pub nesting-found : (a : ℕ) → Above places k e w a → (x : Found) → x ≡ smallerFirst e a → Finds ms places (tourIn old) x
+                pub nesting-found : (a : ℕ) → Above places k e w a → (x : Found) → foundMeans x ≡ smallerFirst e a
+                    → foundMeans x ≡ crossingIn (charted ms old)
                 nesting-found a A x f =
                     let bj : A .j < k = omega (arith, A .not-top) in
-                    let up : a ≡ border (tourIn old (placeIn places w (A .j + 1))) = A .next ∙ same-border (A .j + 1) (A .not-top) in
-                    let X : Crosses ms places (tourIn old) (border (tourIn old p)) (border (tourIn old (placeIn places w (A .j + 1))))
-                    = stacked-crosses ms places (tourIn old) (C .once) p k (placeIn places w) (N .stack) (length ms) (omega arith) l unmarked-here (A .j) (A .not-top)
-                    (sym (same-border (A .j) bj) ∙ A .is-there ∙ is-border) in
-                    let Y : Crosses ms places (tourIn old) e a = rw (is-border, up) X in
-                    rw f (found e a Y)
-                  where
-                    found : (e a : ℕ) → Crosses ms places (tourIn old) e a → Finds ms places (tourIn old) (smallerFirst e a)
-                    found e a Y =
-                        elim (lt-or-ge e a) [
-                          | inl b ↦ rw (lt-ltb e a b) (b, inl Y)
-                          | inr g ↦ let t = Y .two in rw (le-ltb e a g) (omega arith, inr Y)
-                        ]
+                    let y : ℕ = placeIn places w (A .j + 1) in
+                    let up : a ≡ border (tourIn old y) = A .next ∙ same-border (A .j + 1) (A .not-top) in
+                    let L : Lowest (charted ms old) p y
+                    = stacked-lowest ms places (tourIn old) (C .once) p k (placeIn places w) (N .stack) l unmarked-here (length ms) (omega arith)
+                    (A .j) (A .not-top) (sym (same-border (A .j) bj) ∙ A .is-there ∙ is-border) in
+                    f
+                    ∙ ap (λ x. smallerFirst x a) is-border
+                    ∙ ap (λ x. smallerFirst (border (tourIn old p)) x) up
+                    ∙ sym (crossing-in-is (charted ms old) p y L)
 
 pub ruleset some-all = (nesting-some, needs)

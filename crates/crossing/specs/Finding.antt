@@ -1,28 +1,28 @@
 -- What looking for a crossing finds, and what stands on its stack.
 --
--- smallerFirst a b     == the pair a, b, or b, a, the smaller first
--- Finds ms places t r  == r is a pair of unmarked borders that alternate in the tour t, or there is none
+-- foundMeans f         == the two borders that the case f has, or none
+-- charted ms w         == the tour that stands in the working list w, of a drawing with the marks ms
 -- placeIn places w i   == the place at i on the stack that is the last third of w
 -- Stands places k e w  == the stack holds k places, and border e is on it, not on top
 -- Above places k e w r == r is the border directly above e on it
 -- Assumes nothing.
 use mathlib.Core.Path.{_≡_}
-use mathlib.Core.Logic.{_⊎_}
-use mathlib.Core.List.{List}
+use mathlib.Core.Bool.{not}
+use mathlib.Core.List.{List, [], _∷_}
 use Prim.Native.Nat.{ℕ, _+_, _*_, _<_, _≤_}
-use lib.Dec.{ltb}
+use lib.Dec.{eqb}
 use lib.ListN.{length, getD}
-use Rattle.count.specs.Below.{pick}
+use Rattle.drawing.specs.Checks.{Tour}
 use Rattle.crossing.specs.declared.find.Found.{Found}
 use Rattle.crossing.specs.declared.find.Found.the-variants as the-case
-use Rattle.touring.specs.Working.{borderIn, Crosses}
+use Rattle.touring.specs.Working.{borderIn}
 
-abbrev pub smallerFirst : ℕ → ℕ → Found
-smallerFirst a b = pick (ltb a b) (the-case.Pair a b) (the-case.Pair b a)
+abbrev pub foundMeans : Found → List ℕ
+foundMeans (the-case.Pair a b) = a ∷ b ∷ []
+foundMeans the-case.Nothing = []
 
-abbrev pub Finds : List ℕ → ℕ → (ℕ → ℕ) → Found → Type 0
-Finds ms places t (the-case.Pair a b) = (a < b) × (Crosses ms places t a b ⊎ Crosses ms places t b a)
-Finds ms places t the-case.Nothing = (a b : ℕ) → Crosses ms places t a b → ⊥
+abbrev pub charted : List ℕ → List ℕ → Tour
+charted ms w = record { size = 2 * length ms; at = borderIn w; unmarked = λ e. not (eqb (getD ms e 0) 1) }
 
 abbrev pub placeIn : ℕ → List ℕ → ℕ → ℕ
 placeIn places w i = getD w (2 * places + i) 0

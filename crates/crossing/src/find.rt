@@ -1,21 +1,22 @@
-// Check 7: two unmarked borders that alternate in the tour.
+// Check 7: the first two unmarked borders that alternate in the tour.
 use bits::wide;
 use touring::border_in;
 ghost use mathlib.Core.Path.{_≡_};
 ghost use Prim.Native.Nat.{_+_, _*_, _<_};
 ghost use lib.ListN.{length, getD};
-ghost use Rattle.touring.specs.Working.{Outside, Zeroed, Charted, tourIn, borderIn};
-ghost use Rattle.crossing.specs.Finding.{Finds, Stands, Above, smallerFirst};
+ghost use Rattle.drawing.specs.Checks.{smallerFirst, crossingIn};
+ghost use Rattle.touring.specs.Working.{Outside, Zeroed, Charted, borderIn};
+ghost use Rattle.crossing.specs.Finding.{foundMeans, charted, Stands, Above};
 
 pub enum Found {
     Pair(usize, usize),
     Nothing,
 }
 
-// A pair of unmarked borders that alternate in the tour, or that there is none. The last third of the list is left 0.
+// The first pair of unmarked borders that alternate in the tour, or that there is none. The last third of the list is left 0.
 pub fn find_crossing(marks: &[u8], work: &mut [u16]) -> Found
     requires { ⌜ Charted (2 * length (now marks)) (now work) ⌝ }
-    ensures { λ r. ⌜ Finds (now (marks .entry)) (2 * length (now (marks .entry))) (tourIn (now (work .entry))) r ⌝ }
+    ensures { λ r. ⌜ foundMeans r ≡ crossingIn (charted (now (marks .entry)) (now (work .entry))) ⌝ }
     ensures { λ _. ⌜ Zeroed (2 * (2 * length (now (marks .entry)))) (3 * (2 * length (now (marks .entry))))
         (now (work .entry)) (now (work .exit)) ⌝ }
 {
@@ -25,11 +26,12 @@ pub fn find_crossing(marks: &[u8], work: &mut [u16]) -> Found
     found
 }
 
-// Follows the tour. The last third is a stack: the first places of the unmarked borders that are open. Where a border
-// closes that is not on top, it alternates with the one above it.
+// Follows the tour. The last third is a stack: the first places of the unmarked borders that are open. At the first border
+// that closes and is not on top, that border is the a of the first pair a, b, a, b, and the one directly above it is the b:
+// all those above it are open, and it was met first of them.
 fn follow(marks: &[u8], work: &mut [u16]) -> Found
     requires { ⌜ Charted (2 * length (now marks)) (now work) ⌝ }
-    ensures { λ r. ⌜ Finds (now (marks .entry)) (2 * length (now (marks .entry))) (tourIn (now (work .entry))) r ⌝ }
+    ensures { λ r. ⌜ foundMeans r ≡ crossingIn (charted (now (marks .entry)) (now (work .entry))) ⌝ }
     ensures { λ _. ⌜ Outside (2 * (2 * length (now (marks .entry)))) (3 * (2 * length (now (marks .entry))))
         (now (work .entry)) (now (work .exit)) ⌝ }
 {
@@ -77,7 +79,7 @@ fn above(work: &[u16], places: usize, k: usize, e: usize) -> usize
 
 // The two borders, the smaller first.
 fn pair(a: usize, b: usize) -> Found
-    ensures { λ r. ⌜ r ≡ smallerFirst a b ⌝ }
+    ensures { λ r. ⌜ foundMeans r ≡ smallerFirst a b ⌝ }
 {
     if a < b {
         Found::Pair(a, b)

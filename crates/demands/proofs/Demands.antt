@@ -16,17 +16,18 @@
 -- Assumes nothing.
 use mathlib.Core.Path.{_≡_, refl, sym, ap, _∙_, subst}
 use mathlib.Core.Bool.{Bool, true, false, _&&_}
-use mathlib.Core.List.{List}
+use mathlib.Core.List.{List, []}
 use Prim.Native.Nat.{ℕ, _-_, _*_, _≤_, _<_}
 use native.Mathlib.Omega.{arith}
 use lib.ListN.{length, take, drop}
 use lib.Seq.{take-at}
 use Rattle.count.specs.Below.{pick}
-use lib.Dec.{leb}
-use borrow.Author.Tests.{le-leb}
-use Rattle.count.proofs.Logic.{both, pick-yes}
+use lib.Dec.{eqb, leb}
+use borrow.Author.Tests.{le-leb, ne-eqb}
+use Rattle.count.proofs.Logic.{both, pick-yes, pick-no}
 use Rattle.drawing.specs.Drawing.{Drawing, Kind, borders, ends}
-use Rattle.drawing.specs.Checks.{PassesSeven}
+use Rattle.drawing.specs.Checks.{firstCrossing, FirstCrossing, FindsFirst, PassesSeven}
+use Rattle.drawing.proofs.Crossing.{first-crossing}
 use Rattle.drawing.specs.Laid.{turningAfter, marksAfter}
 use Rattle.drawing.specs.Renumbered.{renumbered}
 use Rattle.drawing.specs.Session.{Answer, answer, refused}
@@ -34,7 +35,7 @@ use Rattle.drawing.specs.Book.{bookAnswer, bookSession, bookNeighbours}
 use Rattle.format.specs.Bytes.{Size, sizeIn, mapLength, wordIn}
 use Rattle.format.specs.Open.{openRefusal, Opens, openOf}
 use Rattle.format.specs.Calls.{pointOf, areaOf, mapSession, mapAnswer, neighboursOf}
-use Rattle.format.specs.Pack.{wordOf, sizeFor, packedBytes, Room, packRefusal, packOf, drawingOf, unpackOf}
+use Rattle.format.specs.Pack.{wordOf, sizeFor, packedBytes, Room, packRefusal, packCarries, packOf, drawingOf, unpackOf}
 use Rattle.format.specs.Fits.{Fits}
 use Rattle.format.proofs.Chain.{after-zero, after-answer}
 use Rattle.format.proofs.Passes.{opens-passes}
@@ -67,6 +68,9 @@ packed-length : (D : Drawing) → PassesSeven D → length (turanBytes D) ≡ ma
 packed-length D seven =
     ap length (turan-packed D) ∙ packed-long D seven
 
+abbrev carried : Drawing → ℕ → ℕ → List ℕ
+carried D work out = packCarries D (packRefusal D work out)
+
 pub demand-2-pack : (D : Drawing) (work out : ℕ) → Exact D work out
 unfolding packOf
 demand-2-pack D work out =
@@ -74,14 +78,25 @@ demand-2-pack D work out =
       bytes = turan-packed D;
       writes = λ s. (
         λ e.
-            let a = after-answer (packRefusal D work out) (packedBytes D) s e in
+            let a = after-answer (packRefusal D work out) (carried D work out) (packedBytes D) s e in
             let p = pack-accepts D work out .0 (a .0) in
             (p .0, p .1, sym (a .1) ∙ sym (turan-packed D)),
         λ p.
-            after-zero (packRefusal D work out) (answer (packedBytes D)) (pack-accepts D work out .1 (p .0, p .1))
+            after-zero (packRefusal D work out) (carried D work out) (answer (packedBytes D)) (pack-accepts D work out .1 (p .0, p .1))
             ∙ ap answer (sym (p .2 ∙ turan-packed D)),
       );
-      crosses = pack-crosses D work out;
+      crosses = (
+        λ e.
+            let c = pack-crosses D work out (firstCrossing D) .0 e in
+            let X : FirstCrossing D (firstCrossing D) = c .2 in
+            (c .0, c .1, (X .a, X .b, X .crossing)),
+        λ c.
+            let F : FindsFirst D = first-crossing D (c .1 .range) in
+            pack-crosses D work out (firstCrossing D) .1 (c .0, c .1, F .first (firstCrossing D) .1 (F .exists .1 (c .2), refl)),
+      );
+      pair = pack-crosses D work out;
+      bare = λ k xs e d.
+          pack-refusals D work out .refuses k xs .0 e .3 ∙ pick-no (eqb k 7) (firstCrossing D) [] (ne-eqb k 7 d);
       long = λ seven. packed-length D seven;
       fits = λ seven.
           let f : Fits (sizeFor D) (wordOf D) = passes-fits D seven in
@@ -124,7 +139,7 @@ module _ (s : List ℕ) (opens : Opens s) where
   unpacked-packs : (work out : ℕ) → Room unpackedOf work out → packOf unpackedOf work out ≡ answer s
   unfolding packOf
   unpacked-packs work out room =
-      after-zero (packRefusal unpackedOf work out) (answer (packedBytes unpackedOf)) (pack-accepts unpackedOf work out .1 (room, unpacked-passes))
+      after-zero (packRefusal unpackedOf work out) (carried unpackedOf work out) (answer (packedBytes unpackedOf)) (pack-accepts unpackedOf work out .1 (room, unpacked-passes))
       ∙ ap answer unpacked-bytes
 
   unpacked-answer : (t k : ℕ) → 2 * sizeIn s .m ≤ t → sizeIn s .m ≤ k → unpackOf s t k ≡ answer unpackedOf

@@ -30,8 +30,8 @@ use Rattle.words.specs.Word.{Word, seen, crossing}
 use Rattle.drawing.specs.Drawing.{Drawing, Kind, borders, ends, border, isMarked, around, cells, endAt, isSecond}
 use Rattle.drawing.specs.Renumbered.{renumbered}
 use Rattle.drawing.specs.Laid.{lent, turningAfter, marksAfter}
-use Rattle.drawing.specs.Checks.{PassesSix, PassesSeven, Crossing}
-use Rattle.drawing.specs.Session.{Answer, answer, refused, Call}
+use Rattle.drawing.specs.Checks.{PassesSix, PassesSeven, Crossing, firstCrossing, FirstCrossing}
+use Rattle.drawing.specs.Session.{Answer, answer, refusedWith, Call}
 use Rattle.drawing.specs.Book.{bookSession, bookFirst, bookSize, bookNeighbours, bookJoining, numberAt, hasNumber, endsOn}
 use Rattle.format.specs.Bytes.{Size, sizeIn, wordIn, le16, bytesOf, closingBit, longest, mapLength}
 use Rattle.format.specs.Open.{Opens, openOf}
@@ -55,11 +55,13 @@ turanBytes D =
     ++ bytesOf (gather (λ p. not (markedAt D p)) (λ p. closingBit (isSecond D p)) (ends D)))))
 
 -- Demand 2: "Packing writes exactly Turán's three strings for the drawing's tour, and reports a crossing exactly when two
--- unmarked borders alternate in it, the earlier checks being passed."
+-- unmarked borders alternate in it, the earlier checks being passed." 02, 2/14: the pair that it then carries is fixed.
 pub record Exact (D : Drawing) (work out : ℕ) : Type 0 where
   pub bytes : turanBytes D ≡ packedBytes D
   pub writes : (s : List ℕ) → (packOf D work out ≡ answer s) ↔ (Room D work out × PassesSeven D × (s ≡ turanBytes D))
-  pub crosses : (packOf D work out ≡ refused 7) ↔ (Room D work out × PassesSix D × ((a : ℕ) × (b : ℕ) × Crossing D a b))
+  pub crosses : (packOf D work out ≡ refusedWith 7 (firstCrossing D)) ↔ (Room D work out × PassesSix D × ((a : ℕ) × (b : ℕ) × Crossing D a b))
+  pub pair : (xs : List ℕ) → (packOf D work out ≡ refusedWith 7 xs) ↔ (Room D work out × PassesSix D × FirstCrossing D xs)
+  pub bare : (k : ℕ) (xs : List ℕ) → packOf D work out ≡ refusedWith k xs → k ≢ 7 → xs ≡ []
   pub long : PassesSeven D → length (turanBytes D) ≡ mapLength (sizeFor D)
   pub fits : PassesSeven D → length (turanBytes D) ≤ longest
 

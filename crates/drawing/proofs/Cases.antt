@@ -1,10 +1,10 @@
--- Drawings of two borders on one point by computation: the tour's length alone does not show a tree. Assumes nothing.
+-- Drawings on one point by computation: the tour's length alone does not show a tree, and which crossing is the first. Assumes nothing.
 use mathlib.Core.Path.{_≡_, refl}
 use mathlib.Core.Bool.{true, false}
 use mathlib.Core.List.{List, [], _∷_}
 use Prim.Native.Nat.{ℕ}
 use Rattle.drawing.specs.Drawing.{Drawing, positionOf}
-use Rattle.drawing.specs.Checks.{joined, fewMarks, crosses}
+use Rattle.drawing.specs.Checks.{joined, fewMarks, crosses, firstCrossing}
 use Rattle.drawing.specs.Session.{answer, Call}
 use Rattle.drawing.specs.Book.{bookSession}
 
@@ -13,6 +13,10 @@ interlaced marks = record { turning = 2 ∷ 3 ∷ 1 ∷ 0 ∷ []; marks = marks;
 
 abbrev nested : Drawing
 nested = record { turning = 2 ∷ 0 ∷ 3 ∷ 1 ∷ []; marks = 0 ∷ 0 ∷ []; start = 0 }
+
+-- unmarked borders on one point, each named twice: the tour meets them in this order
+abbrev row : List ℕ → ℕ → Drawing
+row turning start = record { turning = turning; marks = 0 ∷ 0 ∷ 0 ∷ []; start = start }
 
 abbrev apart : Drawing
 apart = record { turning = 0 ∷ 1 ∷ []; marks = 0 ∷ []; start = 0 }
@@ -23,6 +27,15 @@ pub record Cases : Type 0 where
   pub no-tree : fewMarks (interlaced (1 ∷ 1 ∷ [])) ≡ false
   pub alternate : crosses (interlaced (0 ∷ 0 ∷ [])) ≡ true
   pub nest : crosses nested ≡ false
+  pub nest-none : firstCrossing nested ≡ []
+  -- the tour is 0, 1, 2, 0, 1, 2: not 2, which comes last before the second 0
+  pub not-the-last : firstCrossing (row (2 ∷ 3 ∷ 4 ∷ 5 ∷ 1 ∷ 0 ∷ []) 0) ≡ 0 ∷ 1 ∷ []
+  -- 0, 1, 2, 0, 2, 1: not 2, although it comes again before 1 does
+  pub by-first-b : firstCrossing (row (2 ∷ 5 ∷ 4 ∷ 0 ∷ 1 ∷ 3 ∷ []) 0) ≡ 0 ∷ 1 ∷ []
+  -- 0, 1, 2, 1, 0, 2: not 0 and 2, although 0 is met before 1 is
+  pub by-second-a : firstCrossing (row (2 ∷ 5 ∷ 4 ∷ 1 ∷ 3 ∷ 0 ∷ []) 0) ≡ 1 ∷ 2 ∷ []
+  -- 2, 0, 2, 0, 1, 1: the smaller first
+  pub smaller-first : firstCrossing (row (5 ∷ 2 ∷ 3 ∷ 4 ∷ 0 ∷ 1 ∷ []) 4) ≡ 0 ∷ 2 ∷ []
   -- a cross goes there, and the next one comes back; asking for the area leaves the place
   pub session-moves : bookSession nested 1 (Call.cross ∷ Call.area ∷ Call.cross ∷ [])
       ≡ record { answers = answer 4 ∷ answer 2 ∷ answer 1 ∷ []; place = 1 }
@@ -30,5 +43,18 @@ pub record Cases : Type 0 where
   pub not-joined : joined apart ≡ false
 
 pub cases : Cases
-unfolding positionOf fewMarks crosses bookSession joined
-cases = record { tours-all = refl; no-tree = refl; alternate = refl; nest = refl; session-moves = refl; not-joined = refl }
+unfolding positionOf fewMarks crosses firstCrossing bookSession joined
+cases =
+    record {
+      tours-all = refl;
+      no-tree = refl;
+      alternate = refl;
+      nest = refl;
+      nest-none = refl;
+      not-the-last = refl;
+      by-first-b = refl;
+      by-second-a = refl;
+      smaller-first = refl;
+      session-moves = refl;
+      not-joined = refl;
+    }

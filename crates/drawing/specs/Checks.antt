@@ -11,17 +11,23 @@
 -- Alternate D a b        == borders a and b come as a, b, a, b in the tour
 -- Crossing, crosses      == fails 7: two unmarked borders alternate in the tour
 -- Flat                   == passes 7: no two do
--- CrossingPair D a b     == the pair that 7 carries
+-- Tour                   == the borders along a tour: how many places it has, the border at each, and whether a border is unmarked
+-- alternateAt T r q, crossedAt T r == the border at r is the second a of an alternating pair a, b, a, b; the first b is at q
+-- secondA T, firstB T    == the lowest such r, and for it the lowest q
+-- crossingIn T           == the two borders there, the smaller first; nothing where no two alternate
+-- firstCrossing D        == the pair that 7 carries, by that search
+-- FirstCrossing D xs     == xs is the alternating pair that has the lowest second a, and for it the lowest first b
+-- FindsFirst D           == the search finds that pair, where two borders alternate and only there
 -- PassesSix, PassesSeven == passes 1 to 6, 1 to 7
 -- Assumes nothing.
 use mathlib.Core.Path.{_≡_}
-use mathlib.Core.Logic.{_≢_, _⊎_}
+use mathlib.Core.Logic.{_≢_, _↔_}
 use mathlib.Core.Bool.{Bool, true, false, not, _&&_}
 use mathlib.Core.List.{List, [], _∷_, map}
-use Prim.Native.Nat.{ℕ, zero, suc, _*_, _<_, _≤_, max}
+use Prim.Native.Nat.{ℕ, zero, suc, _*_, _<_, _≤_, min, max}
 use lib.ListN.{length, getD}
 use lib.Dec.{eqb, ltb, leb}
-use Rattle.count.specs.Below.{pick, count, all, any, table}
+use Rattle.count.specs.Below.{pick, count, all, any, find, table}
 use Rattle.drawing.specs.Drawing.{mostEnds, Drawing, Kind, borders, ends, border, other, turn, isMarked, cellOf, cells, endAt}
 
 -- 1: "turning list odd in length or over 4,096, or marks not half as long"
@@ -122,37 +128,75 @@ pub record Crossing (D : Drawing) (a b : ℕ) : Type 0 where
 abbrev pub Flat : Drawing → Type 0
 Flat D = (a b : ℕ) → Crossing D a b → ⊥
 
--- The test looks for a, b, a, b in order among the borders of the tour: what is left to be found after the borders ys.
-abbrev pub found : ℕ → List ℕ → List ℕ
-found y [] = []
-found y (x ∷ xs) = pick (eqb x y) xs (x ∷ xs)
+-- What the test reads of a tour.
+pub record Tour : Type 0 where
+  pub size : ℕ
+  pub at : ℕ → ℕ
+  pub unmarked : ℕ → Bool
 
-unfoldable pub missing : List ℕ → List ℕ → List ℕ
-missing [] xs = xs
-missing (y ∷ ys) xs = missing ys (found y xs)
+unfoldable pub tourOf : Drawing → Tour
+unfolding ends border endAt isMarked
+tourOf D = record { size = ends D; at = λ p. border (endAt D p); unmarked = λ e. not (isMarked D e) }
 
-abbrev pub isNone : List ℕ → Bool
-isNone [] = true
-isNone (x ∷ xs) = false
+-- a, b, a, b with the first b at position q and the second a at position r: a stands before q as well, and b after r
+unfoldable pub alternateAt : Tour → ℕ → ℕ → Bool
+unfolding any
+alternateAt T r q =
+    T .unmarked (T .at r)
+    && T .unmarked (T .at q)
+    && not (eqb (T .at r) (T .at q))
+    && any (λ p. eqb (T .at p) (T .at r)) q
+    && any (λ s. ltb r s && eqb (T .at s) (T .at q)) (T .size)
 
-unfoldable pub tourBorders : Drawing → List ℕ
-unfolding table border endAt ends
-tourBorders D = table (λ p. border (endAt D p)) (ends D)
+-- whether the border at position r is the second a of such a pair
+unfoldable pub crossedAt : Tour → ℕ → Bool
+unfolding any alternateAt
+crossedAt T r = any (alternateAt T r) r
 
-abbrev pub crossesIn : Drawing → List ℕ → ℕ → ℕ → Bool
-crossesIn D tour a b =
-    not (eqb a b) && not (isMarked D a) && not (isMarked D b) && isNone (missing tour (a ∷ b ∷ a ∷ b ∷ []))
+-- 02, 2/14: "Our map drawers repair from the start of the tour onwards. Refusal 7 now carries the alternating pair a, b, a, b whose
+-- second a has the lowest place, and among those the one whose first b has the lowest place."
+unfoldable pub secondA : Tour → ℕ
+unfolding find crossedAt
+secondA T = find (crossedAt T) (T .size)
+
+unfoldable pub firstB : Tour → ℕ
+unfolding find alternateAt secondA
+firstB T = find (alternateAt T (secondA T)) (secondA T)
+
+-- "The smaller number is still written first."
+abbrev pub smallerFirst : ℕ → ℕ → List ℕ
+smallerFirst a b = min a b ∷ max a b ∷ []
+
+unfoldable pub crossesIn : Tour → Bool
+unfolding any crossedAt
+crossesIn T = any (crossedAt T) (T .size)
+
+unfoldable pub crossingIn : Tour → List ℕ
+unfolding crossesIn secondA firstB
+crossingIn T = pick (crossesIn T) (smallerFirst (T .at (secondA T)) (T .at (firstB T))) []
 
 unfoldable pub crosses : Drawing → Bool
-unfolding any isMarked missing tourBorders borders
-crosses D =
-    let tour : List ℕ = tourBorders D in
-    any (λ a. any (λ b. crossesIn D tour a b) (borders D)) (borders D)
+unfolding crossesIn tourOf
+crosses D = crossesIn (tourOf D)
 
--- the pair that 7 carries: "two border numbers, smaller first: some pair that alternates"
-pub record CrossingPair (D : Drawing) (a b : ℕ) : Type 0 where
-  pub smaller : a < b
-  pub alternates : Crossing D a b ⊎ Crossing D b a
+unfoldable pub firstCrossing : Drawing → List ℕ
+unfolding crossingIn tourOf
+firstCrossing D = crossingIn (tourOf D)
+
+-- 2/14 again, of any list: it is the pair that those two sentences name
+pub record FirstCrossing (D : Drawing) (xs : List ℕ) : Type 0 where
+  pub a : ℕ
+  pub b : ℕ
+  pub crossing : Crossing D a b
+  pub lowest-a : (c d : ℕ) (X : Crossing D c d) → crossing .alternate .r ≤ X .alternate .r
+  pub lowest-b : (c d : ℕ) (X : Crossing D c d) → X .alternate .r ≡ crossing .alternate .r → crossing .alternate .q ≤ X .alternate .q
+  pub carried : xs ≡ smallerFirst a b
+
+-- what the search finds: "exactly when two unmarked borders alternate" (01, demand 2), the pair of 2/14 and no other
+pub record FindsFirst (D : Drawing) : Type 0 where
+  pub exists : (crosses D ≡ true) ↔ ((a : ℕ) × (b : ℕ) × Crossing D a b)
+  pub first : (xs : List ℕ) → FirstCrossing D xs ↔ ((crosses D ≡ true) × (xs ≡ firstCrossing D))
+  pub none : Flat D → firstCrossing D ≡ []
 
 pub record PassesSix (D : Drawing) : Type 0 where
   pub lengths : LengthsFit D

@@ -11,7 +11,7 @@ use mathlib.Core.List.{List, _++_}
 use Prim.Native.Nat.{ℕ}
 use lib.ListN.{length, drop}
 use Rattle.drawing.specs.Drawing.{Drawing, borders}
-use Rattle.drawing.specs.Session.{Answer, answer, refused}
+use Rattle.drawing.specs.Session.{Answer, answer, refusedWith}
 
 abbrev pub lent : List ℕ → List ℕ → ℕ → Drawing
 lent ts ms s = record { turning = ts; marks = ms; start = s }
@@ -19,7 +19,7 @@ lent ts ms s = record { turning = ts; marks = ms; start = s }
 -- 01: "Opening gives m and n, unpacking gives m"
 abbrev pub bordersOf : Answer Drawing → Answer ℕ
 bordersOf (answer D) = answer (borders D)
-bordersOf (refused k) = refused k
+bordersOf (refusedWith k xs) = refusedWith k xs
 
 abbrev pub laid : List ℕ → List ℕ → List ℕ
 laid new old = new ++ drop (length new) old
@@ -27,8 +27,8 @@ laid new old = new ++ drop (length new) old
 -- 01: "An accepted unpack writes the first 2m turning entries and m marks only"; "Output memory is unchanged."
 abbrev pub turningAfter : Answer Drawing → List ℕ → List ℕ
 turningAfter (answer D) old = laid (D .turning) old
-turningAfter (refused k) old = old
+turningAfter (refusedWith k xs) old = old
 
 abbrev pub marksAfter : Answer Drawing → List ℕ → List ℕ
 marksAfter (answer D) old = laid (D .marks) old
-marksAfter (refused k) old = old
+marksAfter (refusedWith k xs) old = old

@@ -1,7 +1,9 @@
 -- Answers, calls and sessions: the same for the book and for the packed map (document 01, "The drawing's book").
 --
--- Answer A         == what a call gives: an answer, or the number of the refusal
+-- Answer A         == what a call gives: an answer, or a refusal, its number and the numbers that it carries
+-- refused k        == refusal k, which carries nothing
 -- numberOf a       == document 01's number for it: 0 for an answer
+-- carriedBy a      == the numbers that a refusal carries
 -- valueOf a        == the number in an answer; 0 where the call is refused
 -- Call             == the six calls of a session
 -- isMove c         == whether the answer of c is the new place: cross, turn, turn back and along
@@ -14,18 +16,26 @@ use mathlib.Core.List.{List, [], _∷_}
 use Prim.Native.Nat.{ℕ}
 use Rattle.count.specs.Below.{pick}
 
+-- 01, "Numbers returned when a call declines". 02, 2/14: "Refusal 7 now carries the alternating pair"
 pub data Answer (A : Type 0) : Type 0 where
   answer : A → Answer A
-  refused : ℕ → Answer A
+  refusedWith : ℕ → List ℕ → Answer A
 
--- 01, "Numbers returned when a call declines"
+-- every refusal but 7
+abbrev pub refused : {A : Type 0} → ℕ → Answer A
+refused k = refusedWith k []
+
 unfoldable pub numberOf : {A : Type 0} → Answer A → ℕ
 numberOf (answer a) = 0
-numberOf (refused k) = k
+numberOf (refusedWith k xs) = k
+
+unfoldable pub carriedBy : {A : Type 0} → Answer A → List ℕ
+carriedBy (answer a) = []
+carriedBy (refusedWith k xs) = xs
 
 unfoldable pub valueOf : Answer ℕ → ℕ
 valueOf (answer x) = x
-valueOf (refused k) = 0
+valueOf (refusedWith k xs) = 0
 
 pub data Call : Type 0 where
   cross turn turn-back along point area : Call
@@ -41,7 +51,7 @@ isMove area = false
 -- 01: of a move "the answer is the new place"; of point and area "the place stays"; refused, "the place stays"
 abbrev pub placeAfter : Call → Answer ℕ → ℕ → ℕ
 placeAfter c (answer q) p = pick (isMove c) q p
-placeAfter c (refused k) p = p
+placeAfter c (refusedWith k xs) p = p
 
 pub record Outcome : Type 0 where
   pub answers : List (Answer ℕ)

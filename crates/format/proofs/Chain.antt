@@ -4,7 +4,7 @@
 -- Chain P a ts     == the tests decide P a, P (a + 1) and so on, each where those before it hold
 -- hold-none, hold-from == what holds of all checks from a on, one check after the other
 -- chain-zero       == no number comes out exactly if all checks hold
--- chain-in-order   == a call answered after the chain gives the number of the first check that fails, or its answer
+-- chain-in-order   == a call answered after the chain gives the refusal of the first check that fails, with what it carries, or its answer
 -- Assumes nothing.
 use mathlib.Core.Path.{_≡_, refl, sym, ap, _∙_, subst}
 use mathlib.Core.Logic.{_≢_, _⊎_, inl, inr, _↔_}
@@ -16,9 +16,9 @@ use lib.ListN.{length}
 use Rattle.count.specs.Below.{Decides}
 use Rattle.count.proofs.Logic.{same-or-not, lt-or-ge}
 use Rattle.count.proofs.Decides.{decides-refutes}
-use Rattle.drawing.specs.Session.{Answer, answer, refused}
+use Rattle.drawing.specs.Session.{Answer, answer, refusedWith}
 use Rattle.format.specs.Refusals.{FirstFails, InOrder}
-use Rattle.format.specs.Open.{unless, afterRefusal}
+use Rattle.format.specs.Open.{unless, afterRefusalWith}
 
 unfoldable pub chain : List Bool → ℕ → ℕ
 chain [] a = 0
@@ -73,43 +73,50 @@ module _ (P : ℕ → Type 0) where
       ]
 
 -- what comes after a number, and after none
-pub after-zero : {A : Type 0} (k : ℕ) (a : Answer A) → k ≡ 0 → afterRefusal k a ≡ a
-after-zero k a e = ap (λ j. afterRefusal j a) e
+pub after-zero : {A : Type 0} (k : ℕ) (xs : List ℕ) (a : Answer A) → k ≡ 0 → afterRefusalWith k xs a ≡ a
+after-zero k xs a e = ap (λ j. afterRefusalWith j xs a) e
 
-after-some : {A : Type 0} (k : ℕ) (a : Answer A) → 0 < k → afterRefusal k a ≡ refused k
-after-some zero a pos = absurd (omega arith)
-after-some (suc k) a pos = refl
+after-some : {A : Type 0} (k : ℕ) (xs : List ℕ) (a : Answer A) → 0 < k → afterRefusalWith k xs a ≡ refusedWith k xs
+after-some zero xs a pos = absurd (omega arith)
+after-some (suc k) xs a pos = refl
 
-pub after-answer : {A : Type 0} (k : ℕ) (a b : A) → afterRefusal k (answer a) ≡ answer b → (k ≡ 0) × (a ≡ b)
-after-answer zero a b e = (refl, cc)
-after-answer (suc k) a b e = let z : _≡_ {A = ℕ} 0 1 = cc in absurd (omega arith)
+pub after-answer : {A : Type 0} (k : ℕ) (xs : List ℕ) (a b : A) → afterRefusalWith k xs (answer a) ≡ answer b → (k ≡ 0) × (a ≡ b)
+after-answer zero xs a b e = (refl, cc)
+after-answer (suc k) xs a b e = let z : _≡_ {A = ℕ} 0 1 = cc in absurd (omega arith)
 
-after-refused : {A : Type 0} (k j : ℕ) (a : A) → afterRefusal k (answer a) ≡ refused j → (0 < k) × (k ≡ j)
-after-refused zero j a e = let z : _≡_ {A = ℕ} 0 1 = cc in absurd (omega arith)
-after-refused (suc k) j a e = (omega arith, cc)
+after-refused : {A : Type 0} (k j : ℕ) (xs ys : List ℕ) (a : A) → afterRefusalWith k xs (answer a) ≡ refusedWith j ys → (0 < k) × (k ≡ j) × (xs ≡ ys)
+after-refused zero j xs ys a e = let z : _≡_ {A = ℕ} 0 1 = cc in absurd (omega arith)
+after-refused (suc k) j xs ys a e = (omega arith, cc, cc)
 
-pub chain-in-order : {A : Type 0} (P : ℕ → Type 0) (a e : ℕ) (ts : List Bool) (v : A) → 0 < a → a + length ts ≡ suc e → Chain P a ts
-    → InOrder P a e v (afterRefusal (chain ts a) (answer v))
-chain-in-order P a e ts v pos long c =
+pub chain-in-order : {A : Type 0} (carries : ℕ → List ℕ) (P : ℕ → Type 0) (a e : ℕ) (ts : List Bool) (v : A)
+    → 0 < a → a + length ts ≡ suc e → Chain P a ts
+    → InOrder carries P a e v (afterRefusalWith (chain ts a) (carries (chain ts a)) (answer v))
+chain-in-order carries P a e ts v pos long c =
     let none : (chain ts a ≡ 0) ↔ Hold P a (a + length ts) = chain-zero P a ts pos c in
+    let k₀ : ℕ = chain ts a in
     record {
-      refuses = λ k. (
+      refuses = λ k xs. (
         λ r.
-            let n = after-refused (chain ts a) k v r in
+            let n = after-refused k₀ k (carries k₀) xs v r in
             elim (first-failing P a ts c) [
               | inl z ↦ absurd (omega (arith, z .0, n .0))
-              | inr z ↦ subst (λ j. (a ≤ j) × (j ≤ e) × FirstFails P a j) (n .1) (z .0, omega (arith, z .1), z .2)
+              | inr z ↦
+                  let f : (a ≤ k) × (k ≤ e) × FirstFails P a k
+                  = subst (λ j. (a ≤ j) × (j ≤ e) × FirstFails P a j) (n .1) (z .0, omega (arith, z .1), z .2) in
+                  (f .0, f .1, f .2, sym (n .2) ∙ ap carries (n .1))
             ],
         λ f.
             elim (first-failing P a ts c) [
               | inl z ↦ absurd (f .2 .fails (z .1 k (f .0) (omega (arith, f .1))))
               | inr z ↦
-                  after-some (chain ts a) (answer v) (omega (arith, z .0))
-                  ∙ ap refused (one-first P a (chain ts a) k (z .0) (f .0) (z .2) (f .2))
+                  let same : k₀ ≡ k = one-first P a k₀ k (z .0) (f .0) (z .2) (f .2) in
+                  after-some k₀ (carries k₀) (answer v) (omega (arith, z .0))
+                  ∙ ap (λ j. refusedWith j (carries j)) same
+                  ∙ ap (refusedWith k) (sym (f .3))
             ],
       );
       answers = (
-        λ r k l h. none .0 (after-answer (chain ts a) v v r .0) k l (omega arith),
-        λ all. after-zero (chain ts a) (answer v) (none .1 (λ k l h. all k l (omega arith))),
+        λ r k l h. none .0 (after-answer k₀ (carries k₀) v v r .0) k l (omega arith),
+        λ all. after-zero k₀ (carries k₀) (answer v) (none .1 (λ k l h. all k l (omega arith))),
       );
     }

@@ -20,7 +20,7 @@ use Rattle.words.proofs.Mate.{balanced-decides}
 use Rattle.bits.specs.Strings.{rank, brackets, unusedZero}
 use Rattle.bits.proofs.Laws.{unused-zero-from, unused-zero-has}
 use Rattle.drawing.specs.Drawing.{mostBorders}
-use Rattle.format.specs.Refusals.{InOrder}
+use Rattle.format.specs.Refusals.{InOrder, bare}
 use Rattle.format.specs.Bytes.{header, sizeIn, bitsA, bitsB, mapLength, partA, partB}
 use Rattle.format.specs.Open.{SizeFits, sizeFits, LengthFits, lengthFits, UnusedZero, UnusedFits, unusedFits, OnesFit, onesFit}
 use Rattle.format.specs.Open.{BracketsFit, bracketsFit, OpenCheck, openRefusal, opened, openOf}
@@ -135,6 +135,6 @@ module _ (s : List ℕ) where
       (hold-from P 11 13 (record { ones = h .ones })
       (hold-from P 12 13 (record { nested = h .nested }) (hold-none P 13 13 (omega arith)))))))
 
-  pub open-refusals : InOrder (OpenCheck s) 8 12 (sizeIn s) (openOf s)
+  pub open-refusals : InOrder bare (OpenCheck s) 8 12 (sizeIn s) (openOf s)
   unfolding openOf opened tests
-  open-refusals = rw refusal-chain (chain-in-order (OpenCheck s) 8 12 tests (sizeIn s) (omega arith) (omega arith) open-chain)
+  open-refusals = rw refusal-chain (chain-in-order bare (OpenCheck s) 8 12 tests (sizeIn s) (omega arith) (omega arith) open-chain)

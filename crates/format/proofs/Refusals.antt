@@ -2,7 +2,8 @@
 --
 -- pack-refusals   == packing gives the number of the first check that fails, or the drawing's bytes
 -- pack-accepts    == no refusal exactly if there is room and the drawing passes 1 to 7
--- pack-crosses    == refusal 7 exactly if there is room, the drawing passes 1 to 6, and two unmarked borders alternate
+-- pack-crosses    == refusal 7 with xs exactly if there is room, the drawing passes 1 to 6, and xs is its first crossing
+-- pack-number     == the number of packing's answer; pack-carried == what its refusal carries
 -- Assumes nothing.
 use mathlib.Core.Path.{_≡_, refl, sym, _∙_}
 use mathlib.Core.Logic.{_⊎_, inl, inr, _↔_}
@@ -14,16 +15,16 @@ use Rattle.count.specs.Below.{Decides}
 use Rattle.count.proofs.Logic.{true-or-false}
 use Rattle.count.proofs.Decides.{decides-le, decides-both, decides-not, decides-refutes, decides-as}
 use Rattle.drawing.specs.Drawing.{Drawing, borders}
-use Rattle.drawing.specs.Checks.{LengthsFit, lengthsFit, InRange, inRange, Distinct, distinct, joined, fewMarks, Crossing, Flat, crosses}
+use Rattle.drawing.specs.Checks.{LengthsFit, lengthsFit, InRange, inRange, Distinct, distinct, joined, fewMarks, Flat, crosses, FirstCrossing}
 use Rattle.drawing.specs.Checks.{PassesSix, PassesSeven}
-use Rattle.drawing.specs.Session.{answer, refused}
+use Rattle.drawing.specs.Session.{answer, refusedWith}
 use Rattle.drawing.proofs.Checks.{lengths-decides, range-decides, distinct-decides, few-decides}
 use Rattle.drawing.proofs.Labels.{joined-decides}
-use Rattle.drawing.proofs.Crossing.{crosses-decides}
+use Rattle.drawing.proofs.Crossing.{crosses-decides, first-crossing}
 use Rattle.drawing.proofs.Ends.{turn-permutes}
 use Rattle.format.specs.Bytes.{longest}
 use Rattle.format.specs.Refusals.{FirstFails, InOrder}
-use Rattle.format.specs.Pack.{packedBytes, Room, roomFits, PackCheck, packRefusal, packOf}
+use Rattle.format.specs.Pack.{packedBytes, Room, roomFits, PackCheck, packRefusal, packCarries, packOf}
 use Rattle.format.proofs.Chain.{chain, Chain, Hold, hold-none, hold-from, chain-zero, chain-in-order}
 
 room-decides : (D : Drawing) (work out : ℕ) → Decides (roomFits D work out) (Room D work out)
@@ -31,8 +32,8 @@ room-decides D work out =
     decides-as (λ t. record { working = t .0; output = t .1 }) (λ r. (r .working, r .output))
     (decides-both (decides-le (6 * borders D) work) (decides-le longest out))
 
-flat-decides : (D : Drawing) → Decides (not (crosses D)) (Flat D)
-flat-decides D = decides-as (λ n a b c. n (a, b, c)) (λ f c. f (c .0) (c .1) (c .2)) (decides-not (crosses-decides D))
+flat-decides : (D : Drawing) → InRange D → Decides (not (crosses D)) (Flat D)
+flat-decides D I = decides-as (λ n a b c. n (a, b, c)) (λ f c. f (c .0) (c .1) (c .2)) (decides-not (crosses-decides D I))
 
 module _ (D : Drawing) (work out : ℕ) where
   tests : List Bool
@@ -43,7 +44,7 @@ module _ (D : Drawing) (work out : ℕ) where
   unfolding packRefusal tests chain
   refusal-chain = refl
 
-  -- that marked borders join all points is tested where entries are in range and distinct
+  -- that marked borders join all points is tested where entries are in range and distinct, what alternates where they are in range
   pack-chain : Chain (PackCheck D work out) 1 tests
   unfolding tests
   pack-chain = (
@@ -54,16 +55,16 @@ module _ (D : Drawing) (work out : ℕ) where
         range-decides D,
         λ r. (
           distinct-decides D,
-          λ d. (joined-decides D (turn-permutes D r d), λ j. (few-decides D, λ f. (flat-decides D, λ z. tt))),
+          λ d. (joined-decides D (turn-permutes D r d), λ j. (few-decides D, λ f. (flat-decides D r, λ z. tt))),
         ),
       ),
     ),
   )
 
-  pub pack-refusals : InOrder (PackCheck D work out) 1 7 (packedBytes D) (packOf D work out)
+  pub pack-refusals : InOrder (packCarries D) (PackCheck D work out) 1 7 (packedBytes D) (packOf D work out)
   unfolding packOf tests
   pack-refusals =
-      rw refusal-chain (chain-in-order (PackCheck D work out) 1 7 tests (packedBytes D) (omega arith) (omega arith) pack-chain)
+      rw refusal-chain (chain-in-order (packCarries D) (PackCheck D work out) 1 7 tests (packedBytes D) (omega arith) (omega arith) pack-chain)
 
   -- checks 1 to 6, as one record
   six-hold : Hold (PackCheck D work out) 1 7 → Room D work out × PassesSix D
@@ -99,26 +100,29 @@ module _ (D : Drawing) (work out : ℕ) where
             ∙ none .1 (hold-six 8 (p .0) (p .1 .six) (hold-from P 7 8 (p .1 .flat) (hold-none P 8 8 (omega arith)))),
       )
 
-  pub pack-crosses : (packOf D work out ≡ refused 7) ↔ (Room D work out × PassesSix D × ((a : ℕ) × (b : ℕ) × Crossing D a b))
-  pack-crosses =
+  pub pack-crosses : (xs : List ℕ) → (packOf D work out ≡ refusedWith 7 xs) ↔ (Room D work out × PassesSix D × FirstCrossing D xs)
+  pack-crosses xs =
       let P : ℕ → Type 0 = PackCheck D work out in
-      let seven = pack-refusals .refuses 7 in (
+      let seven = pack-refusals .refuses 7 xs in (
         λ e.
             let F : FirstFails P 1 7 = seven .0 e .2 in
-            let six = six-hold (F .before) in (
-              six .0,
-              six .1,
-              elim (true-or-false (crosses D)) [
-                | inl t ↦ crosses-decides D .sound t
-                | inr f ↦ absurd (F .fails (λ a b c. decides-refutes (crosses-decides D) f (a, b, c)))
-              ],
+            let six = six-hold (F .before) in
+            let I : InRange D = six .1 .range in
+            let t : crosses D ≡ true =
+            elim (true-or-false (crosses D)) [
+              | inl t ↦ t
+              | inr f ↦ absurd (F .fails (λ a b c. decides-refutes (crosses-decides D I) f (a, b, c)))
+            ] in
+            (six .0, six .1, first-crossing D I .first xs .1 (t, seven .0 e .3)),
+        λ c.
+            let X : FirstCrossing D xs = c .2 in
+            seven .1 (
+              omega arith,
+              omega arith,
+              record {
+                before = hold-six 7 (c .0) (c .1) (hold-none P 7 7 (omega arith));
+                fails = λ flat. flat (X .a) (X .b) (X .crossing);
+              },
+              first-crossing D (c .1 .range) .first xs .0 X .1,
             ),
-        λ c. seven .1 (
-          omega arith,
-          omega arith,
-          record {
-            before = hold-six 7 (c .0) (c .1) (hold-none P 7 7 (omega arith));
-            fails = λ flat. flat (c .2 .0) (c .2 .1) (c .2 .2);
-          },
-        ),
       )

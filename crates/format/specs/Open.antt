@@ -11,12 +11,13 @@
 -- openRefusal s    == the first of 8 to 12 that applies to the bytes s; 0 where none does
 -- Opens s          == s is a byte string, and none applies
 -- openOf s         == opening: m and n, or the refusal
--- afterRefusal k a == the refusal k, or a where k is 0
+-- afterRefusalWith k xs a == the refusal k, which carries xs, or a where k is 0
+-- afterRefusal k a == the same of a refusal that carries nothing
 -- opened s a       == a call's own answer a, after opening's checks
 -- Assumes nothing.
 use mathlib.Core.Path.{_≡_}
 use mathlib.Core.Bool.{Bool, true, false, _&&_}
-use mathlib.Core.List.{List}
+use mathlib.Core.List.{List, []}
 use Prim.Native.Nat.{ℕ, zero, suc, _+_, _-_, _*_, _≤_, _<_}
 use lib.ListN.{length}
 use lib.Dec.{eqb, leb}
@@ -26,7 +27,7 @@ use Rattle.words.specs.declared.family.Family.{Family}
 use Rattle.words.specs.declared.family.Family.the-variants.{Round as round, Square as square}
 use Rattle.bits.specs.Strings.{bit, rank, brackets, unusedZero}
 use Rattle.drawing.specs.Drawing.{mostBorders}
-use Rattle.drawing.specs.Session.{Answer, answer, refused}
+use Rattle.drawing.specs.Session.{Answer, answer, refusedWith}
 use Rattle.format.specs.Bytes.{EachBelow, Size, header, sizeIn, bitsA, bitsB, mapLength, partA, partB}
 
 abbrev pub unless : Bool → ℕ → ℕ → ℕ
@@ -103,9 +104,12 @@ pub record Opens (s : List ℕ) : Type 0 where
   pub bytes : EachBelow 256 s
   pub passes : openRefusal s ≡ 0
 
+abbrev pub afterRefusalWith : {A : Type 0} → ℕ → List ℕ → Answer A → Answer A
+afterRefusalWith zero xs a = a
+afterRefusalWith (suc k) xs a = refusedWith (suc k) xs
+
 abbrev pub afterRefusal : {A : Type 0} → ℕ → Answer A → Answer A
-afterRefusal zero a = a
-afterRefusal (suc k) a = refused (suc k)
+afterRefusal k a = afterRefusalWith k [] a
 
 -- 01: "Every call on map bytes runs 8 to 12, then its own."
 unfoldable pub opened : {A : Type 0} → List ℕ → Answer A → Answer A

@@ -6,7 +6,8 @@
 -- Room D w o, roomFits == passes 2: w entries of working list and o bytes of output are enough
 -- PackCheck D w o k == the drawing and the memory lent pass check k of 1 to 7; nothing is asked of another number
 -- packRefusal D w o == the first of 1 to 7 that applies, with w entries of working list and o bytes of output lent; 0 where none does
--- packOf D w o     == packing: the map's bytes, or the refusal
+-- packCarries D k  == the numbers that packing's refusal k carries: the first crossing with 7
+-- packOf D w o     == packing: the map's bytes, or the refusal with what it carries
 -- opensBefore w p  == how many first places come before position p
 -- endIn w p        == the end that unpacking puts at position p
 -- positionIn w h   == the position at which end h stands
@@ -14,7 +15,7 @@
 -- unpackOf s t k   == unpacking the map s into lists of t turning entries and k marks
 -- Assumes nothing.
 use mathlib.Core.Bool.{Bool, true, false, not, _&&_}
-use mathlib.Core.List.{List}
+use mathlib.Core.List.{List, []}
 use Prim.Native.Nat.{ℕ, zero, suc, _+_, _*_, _/_, _≤_}
 use lib.Dec.{eqb, ltb, leb}
 use Rattle.count.specs.Below.{pick, count, find, table}
@@ -23,10 +24,10 @@ use Rattle.words.specs.declared.family.Family.{Family}
 use Rattle.words.specs.declared.family.Family.the-variants.{Round as round, Square as square}
 use Rattle.words.specs.Word.{Letter, Word, seen, crossing}
 use Rattle.drawing.specs.Drawing.{Drawing, Kind, borders, ends, border, isMarked, cells, endAt, isSecond}
-use Rattle.drawing.specs.Checks.{LengthsFit, lengthsFit, InRange, inRange, Distinct, distinct, Joined, joined, FewMarks, fewMarks, Flat, crosses}
+use Rattle.drawing.specs.Checks.{LengthsFit, lengthsFit, InRange, inRange, Distinct, distinct, Joined, joined, FewMarks, fewMarks, Flat, crosses, firstCrossing}
 use Rattle.drawing.specs.Session.{Answer, answer, refused}
 use Rattle.format.specs.Bytes.{Size, sizeIn, longest, mapBytes, wordIn, familyBit}
-use Rattle.format.specs.Open.{unless, afterRefusal, opened}
+use Rattle.format.specs.Open.{unless, afterRefusalWith, opened}
 
 unfoldable pub wordOf : Drawing → Word
 unfolding ends isMarked border endAt isSecond
@@ -68,9 +69,15 @@ packRefusal D work out =
     (unless (inRange D) 3
     (unless (distinct D) 4 (unless (joined D) 5 (unless (fewMarks D) 6 (unless (not (crosses D)) 7 0))))))
 
+-- 02, 2/14: "Refusal 7 now carries the alternating pair". The others carry nothing.
+abbrev pub packCarries : Drawing → ℕ → List ℕ
+packCarries D k = pick (eqb k 7) (firstCrossing D) []
+
 unfoldable pub packOf : Drawing → ℕ → ℕ → Answer (List ℕ)
-unfolding packRefusal packedBytes
-packOf D work out = afterRefusal (packRefusal D work out) (answer (packedBytes D))
+unfolding packRefusal firstCrossing packedBytes
+packOf D work out =
+    let k : ℕ = packRefusal D work out in
+    afterRefusalWith k (packCarries D k) (answer (packedBytes D))
 
 -- 01: "Unpacking numbers borders by their first places. The first place is the even end, the start is 0."
 unfoldable pub opensBefore : Word → ℕ → ℕ

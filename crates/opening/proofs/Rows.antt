@@ -14,7 +14,7 @@ use mir.Syntax.{w8}
 use mir.Val.{Fits}
 use mathlib.Core.Path.{_≡_, refl, sym, ap, ap₂, _∙_}
 use mathlib.Core.Bool.{Bool, true, false, not}
-use mathlib.Core.List.{List}
+use mathlib.Core.List.{List, []}
 use Prim.Native.Nat.{ℕ, zero, suc, _+_, _<_, _≤_}
 use native.Mathlib.Omega.{arith}
 use borrow.Author.Tests.{le-leb, lt-leb, not-true, not-false}
@@ -160,4 +160,4 @@ bytes-open s known e = record { bytes = λ i. known i .fits; passes = e }
 
 pub answer-opens : (s : List ℕ) → ((i : ℕ) → Fits w8 (getD s i 0)) → (z : Size) → openOf s ≡ answer z → Opens s
 unfolding openOf opened
-answer-opens s known z e = bytes-open s known (after-answer (openRefusal s) (sizeIn s) z e .0)
+answer-opens s known z e = bytes-open s known (after-answer (openRefusal s) [] (sizeIn s) z e .0)

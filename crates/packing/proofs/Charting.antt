@@ -1,21 +1,20 @@
--- From the working list to the drawing: the chart of its tour, its word, and what alternates.
+-- From the working list to the drawing: the chart of its tour, its word, and the tour in which crossings are searched.
 --
 -- met-same         == tours that agree up to p agree whether p is a second place
 -- Chart D w        == the tour of D stands in w, and which places are second
 -- chart-made, chart-kept == it does after the tour and the flags, and where only the last third changes
 -- chart-charted, chart-legible, chart-sized == so looking for a crossing and writing may begin
 -- chart-bytes      == the bytes of its word are those of the drawing
--- crossing-to, crossing-from == what alternates in it alternates in the drawing's tour, and the reverse
+-- chart-alike      == what the search for a crossing reads in it is the drawing's tour
 -- Assumes nothing.
 use mathlib.Core.Path.{_≡_, refl, sym, ap, _∙_}
-use mathlib.Core.Logic.{_≢_}
 use mathlib.Core.Bool.{Bool, true, false}
 use mathlib.Core.List.{List}
 use Prim.Native.Nat.{ℕ, _+_, _*_, _<_, _≤_}
 use native.Mathlib.Omega.{arith}
 use lib.Dec.{eqb}
 use lib.ListN.{length, getD}
-use borrow.Author.Tests.{eq-eqb, ne-eqb, eqb-true, eqb-false}
+use borrow.Author.Tests.{eq-eqb, eqb-true}
 use Rattle.count.specs.Below.{pick, count}
 use Rattle.count.proofs.Logic.{bool-same}
 use Rattle.count.proofs.Below.{any-has, any-from, count-same, count-le}
@@ -24,8 +23,9 @@ use Rattle.orbits.proofs.Conjugate.{count-renamed}
 use Rattle.words.specs.declared.family.Family.the-variants.{Round as round, Square as square}
 use Rattle.words.specs.Word.{sameFamily, Letter}
 use Rattle.drawing.specs.Drawing.{Drawing, Kind, borders, ends, border, isMarked, cells, endAt, positionOf, isSecond}
-use Rattle.drawing.specs.Checks.{PassesSix, Crossing, markCount}
-use Rattle.drawing.proofs.Ends.{border-below, count-borders}
+use Rattle.drawing.specs.Checks.{PassesSix, tourOf, markCount}
+use Rattle.drawing.proofs.Crossing.{Alike}
+use Rattle.drawing.proofs.Ends.{count-borders}
 use Rattle.tours.specs.Tour.{MeetsAll}
 use Rattle.tours.proofs.Theorems.{passes-meets, marks-at-least}
 use Rattle.format.specs.Bytes.{mapBytes}
@@ -33,7 +33,8 @@ use Rattle.format.specs.Pack.{wordOf, packedBytes}
 use Rattle.format.proofs.Encode.{map-bytes-same}
 use Rattle.drawing.specs.Laid.{lent}
 use Rattle.checking.specs.Lent.{Blank, Kept}
-use Rattle.touring.specs.Working.{Outside, Zeroed, Tours, Clean, Noted, Charted, Crosses, tourIn, borderIn, met}
+use Rattle.touring.specs.Working.{Outside, Zeroed, Tours, Clean, Noted, Charted, tourIn, borderIn, met}
+use Rattle.crossing.specs.Finding.{charted}
 use Rattle.writing.specs.Writing.{wordAt, chartBytes, Legible, Sized}
 use Rattle.writing.proofs.Filling.{round-is}
 
@@ -182,62 +183,6 @@ module _ (ts ms : List ℕ) (s : ℕ) (six : PassesSix (lent ts ms s)) where
         ∙ count-borders (isMarked D) (borders D) in
         record { least = omega arith; most = omega arith; rounds = omega arith }
 
-    unmarked-to : (e : ℕ) → getD ms e 0 ≢ 1 → isMarked D e ≡ false
-    unfolding isMarked
-    unmarked-to e d = ne-eqb (getD ms e 0) 1 d
-
-    unmarked-from : (e : ℕ) → isMarked D e ≡ false → getD ms e 0 ≢ 1
-    unfolding isMarked
-    unmarked-from e f = eqb-false (getD ms e 0) 1 f
-
-    pub crossing-to : (a b : ℕ) → Crosses ms (2 * length ms) (tourIn w) a b → Crossing (lent ts ms s) a b
-    unfolding ends borders
-    crossing-to a b X =
-        let here : (p x : ℕ) → p < 2 * length ms → borderIn w p ≡ x → border (endAt D p) ≡ x = λ p x l e. ap border (sym (at-end p l)) ∙ e in
-        let below : (p x : ℕ) → p < 2 * length ms → borderIn w p ≡ x → x < length ms
-        = λ p x l e. rw (← e) (border-below (length ms) (tourIn w p) (once .below p l)) in
-        record {
-          first-border = below (X .p) a (omega (arith, X .p-q, X .q-r, X .r-s, X .s-end)) (X .at-p);
-          second-border = below (X .s) b (X .s-end) (X .at-s);
-          two = X .two;
-          first-unmarked = unmarked-to a (X .first-unmarked);
-          second-unmarked = unmarked-to b (X .second-unmarked);
-          alternate =
-              record {
-                p = X .p;
-                q = X .q;
-                r = X .r;
-                s = X .s;
-                p-q = X .p-q;
-                q-r = X .q-r;
-                r-s = X .r-s;
-                s-end = X .s-end;
-                at-p = here (X .p) a (omega (arith, X .p-q, X .q-r, X .r-s, X .s-end)) (X .at-p);
-                at-q = here (X .q) b (omega (arith, X .q-r, X .r-s, X .s-end)) (X .at-q);
-                at-r = here (X .r) a (omega (arith, X .r-s, X .s-end)) (X .at-r);
-                at-s = here (X .s) b (X .s-end) (X .at-s);
-              };
-        }
-
-    pub crossing-from : (a b : ℕ) → Crossing (lent ts ms s) a b → Crosses ms (2 * length ms) (tourIn w) a b
-    unfolding ends borders
-    crossing-from a b Y =
-        let X = Y .alternate in
-        let here : (p x : ℕ) → p < 2 * length ms → border (endAt D p) ≡ x → borderIn w p ≡ x = λ p x l e. ap border (at-end p l) ∙ e in
-        record {
-          two = Y .two;
-          first-unmarked = unmarked-from a (Y .first-unmarked);
-          second-unmarked = unmarked-from b (Y .second-unmarked);
-          p = X .p;
-          q = X .q;
-          r = X .r;
-          s = X .s;
-          p-q = X .p-q;
-          q-r = X .q-r;
-          r-s = X .r-s;
-          s-end = X .s-end;
-          at-p = here (X .p) a (omega (arith, X .p-q, X .q-r, X .r-s, X .s-end)) (X .at-p);
-          at-q = here (X .q) b (omega (arith, X .q-r, X .r-s, X .s-end)) (X .at-q);
-          at-r = here (X .r) a (omega (arith, X .r-s, X .s-end)) (X .at-r);
-          at-s = here (X .s) b (X .s-end) (X .at-s);
-        }
+    pub chart-alike : Alike (charted ms w) (tourOf (lent ts ms s))
+    unfolding tourOf ends borders isMarked
+    chart-alike = record { size = refl; at = λ p l. ap border (at-end p l); unmarked = λ e. refl }

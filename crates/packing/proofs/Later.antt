@@ -1,6 +1,6 @@
 -- Checks 4 to 7: which refusal comes first, and what packing answers with it.
 --
--- carries-..       == what each reply carries
+-- carries-none     == no number but 7 carries anything
 -- later-4 .. later-none == the first of 4 to 7 that applies
 -- declines         == an answer by the number of a check
 -- passes, fails    == what a test says that was computed and negated
@@ -11,22 +11,23 @@
 use mathlib.Core.Path.{_≡_, refl, sym, ap, _∙_}
 use mathlib.Core.Logic.{_≢_, inl, inr}
 use mathlib.Core.Bool.{Bool, true, false, not}
-use mathlib.Core.List.{List, []}
+use mathlib.Core.List.{List, [], _∷_}
 use Prim.Native.Nat.{ℕ, suc, _*_, _<_, _≤_}
 use native.Mathlib.Omega.{arith}
-use borrow.Author.Tests.{not-true, not-false, le-ltb}
+use borrow.Author.Tests.{not-true, not-false, le-ltb, ne-eqb}
+use lib.Dec.{eqb}
 use lib.ListN.{length, getD}
 use Rattle.count.specs.Below.{Decides}
-use Rattle.count.proofs.Logic.{true-or-false}
+use Rattle.count.proofs.Logic.{true-or-false, pick-no}
 use Rattle.drawing.specs.Drawing.{Drawing, Kind, cells}
-use Rattle.drawing.specs.Checks.{LengthsFit, InRange, PassesSix, Crossing, CrossingPair, distinct, joined, fewMarks, crosses, markCount}
-use Rattle.drawing.specs.Session.{answer, refused, numberOf}
+use Rattle.drawing.specs.Checks.{LengthsFit, InRange, PassesSix, distinct, joined, fewMarks, crosses, firstCrossing, tourOf, crossingIn, markCount}
+use Rattle.drawing.specs.Session.{answer, refusedWith, refused}
 use Rattle.drawing.proofs.Checks.{distinct-decides, few-decides}
 use Rattle.drawing.proofs.Labels.{joined-decides}
-use Rattle.drawing.proofs.Crossing.{crosses-decides}
+use Rattle.drawing.proofs.Crossing.{crossing-in-same, no-crossing, first-crossing}
 use Rattle.drawing.proofs.Ends.{turn-permutes}
-use Rattle.format.specs.Open.{afterRefusal}
-use Rattle.format.specs.Pack.{packedBytes}
+use Rattle.format.specs.Open.{afterRefusalWith}
+use Rattle.format.specs.Pack.{packedBytes, packCarries}
 use Rattle.drawing.specs.Laid.{lent, laid}
 use Rattle.checking.specs.Lent.{pointsIn, Ranged, Differ, Turns, Kept}
 use Rattle.checking.proofs.Laws.{ranged-from, turns-from, distinct-is, points-are}
@@ -34,31 +35,13 @@ use Rattle.packing.specs.declared.answers.Packed.{Packed}
 use Rattle.packing.specs.declared.answers.Packed.the-variants as the-case
 use Rattle.crossing.specs.declared.find.Found.{Found}
 use Rattle.crossing.specs.declared.find.Found.the-variants as the-found
-use Rattle.packing.specs.Answers.{packedMeans, lengthOf, Carries, written, laterRefusal, laterOf, PacksLater}
-use Rattle.crossing.specs.Finding.{Finds}
-use Rattle.touring.specs.Working.{tourIn}
+use Rattle.packing.specs.Answers.{packedMeans, lengthOf, written, laterRefusal, laterOf, PacksLater}
+use Rattle.crossing.specs.Finding.{foundMeans, charted}
 use Rattle.writing.specs.Writing.{chartBytes}
-use Rattle.packing.proofs.Charting.{Chart, chart-bytes, crossing-to, crossing-from}
+use Rattle.packing.proofs.Charting.{Chart, chart-bytes, chart-alike}
 
--- ---- what a reply carries
-pub number-not : (k : ℕ) → k ≢ 7 → numberOf {A = ℕ} (refused k) ≢ 7
-unfolding numberOf
-number-not k d = d
-
-pub carries-none : (D : Drawing) (r : Packed) → numberOf (packedMeans r .says) ≢ 7 → packedMeans r .carried ≡ [] → Carries D (packedMeans r)
-carries-none D r d e = record { pair = λ s. absurd (d s); none = λ _. e }
-
-carries-length : (D : Drawing) (l : ℕ) → Carries D (packedMeans (the-case.Length l))
-unfolding numberOf
-carries-length D l = carries-none D (the-case.Length l) (omega arith) refl
-
-carries-pair : (D : Drawing) (a b : ℕ) → CrossingPair D a b → Carries D (packedMeans (the-case.Crossing a b))
-unfolding numberOf
-carries-pair D a b P =
-    record {
-      pair = λ _. record { smaller = a; larger = b; both = refl; crossing = P };
-      none = λ d. absurd (d refl);
-    }
+pub carries-none : (D : Drawing) (k : ℕ) → k ≢ 7 → packCarries D k ≡ []
+carries-none D k d = pick-no (eqb k 7) (firstCrossing D) [] (ne-eqb k 7 d)
 
 module _ (D : Drawing) where
   later-4 : distinct D ≡ false → laterRefusal D ≡ 4
@@ -84,19 +67,15 @@ module _ (D : Drawing) where
         unfolding laterRefusal
         later-none d = rw (a, b, c, d)
 
-  later-is : (k : ℕ) → laterRefusal D ≡ k → laterOf D ≡ afterRefusal k (answer (packedBytes D))
+  later-is : (k : ℕ) → laterRefusal D ≡ k → laterOf D ≡ afterRefusalWith k (packCarries D k) (answer (packedBytes D))
   unfolding laterOf
-  later-is k e = ap (λ j. afterRefusal j (answer (packedBytes D))) e
+  later-is k e = ap (λ j. afterRefusalWith j (packCarries D j) (answer (packedBytes D))) e
 
   -- with a number that is not 0, and not 7
-  pub declines : (k : ℕ) (old : List ℕ) → k < 6 → laterRefusal D ≡ suc k → PacksLater D (packedMeans (the-case.Declined (suc k))) old old
+  declines : (k : ℕ) (old : List ℕ) → k < 6 → laterRefusal D ≡ suc k → PacksLater D (packedMeans (the-case.Declined (suc k))) old old
   declines k old l e =
-      let a = later-is (suc k) e in
-      record {
-        answers = sym (ap lengthOf a);
-        carries = carries-none D (the-case.Declined (suc k)) (number-not (suc k) (omega arith)) refl;
-        output = sym (ap (λ x. written x old) a);
-      }
+      let a : laterOf D ≡ refused (suc k) = later-is (suc k) e ∙ ap (refusedWith (suc k)) (carries-none D (suc k) (omega arith)) in
+      record { answers = sym (ap lengthOf a); output = sym (ap (λ x. written x old) a) }
 
 -- a test r that was computed, and the test t that it computes
 module _ (r t : Bool) (e : r ≡ t) where
@@ -173,35 +152,38 @@ module _ (ts ms : List ℕ) (s : ℕ) (six : PassesSix (lent ts ms s)) where
   few = few-decides G .complete (six .few)
 
   module _ (w : List ℕ) (C : Chart (lent ts ms s) w) where
-    pub finish-pair : (x : Found) → Finds ms (2 * length ms) (tourIn w) x → (a b : ℕ) → x ≡ the-found.Pair a b
+    -- the tour in the working list is the drawing's
+    found-is : (x : Found) → foundMeans x ≡ crossingIn (charted ms w) → foundMeans x ≡ firstCrossing (lent ts ms s)
+    unfolding firstCrossing
+    found-is x Y = Y ∙ crossing-in-same (charted ms w) (tourOf G) (chart-alike ts ms s six w C)
+
+    pub finish-pair : (x : Found) → foundMeans x ≡ crossingIn (charted ms w) → (a b : ℕ) → x ≡ the-found.Pair a b
         → (old : List ℕ) → PacksLater (lent ts ms s) (packedMeans (the-case.Crossing a b)) old old
     finish-pair x Y a b f old =
-        let X : Finds ms (2 * length ms) (tourIn w) (the-found.Pair a b) = rw f at Y in
-        let pair : CrossingPair G a b =
-        record {
-          smaller = X .0;
-          alternates = elim (X .1) [ inl x ↦ inl (crossing-to ts ms s six w C a b x) | inr x ↦ inr (crossing-to ts ms s six w C b a x) ];
-        } in
+        let is : a ∷ b ∷ [] ≡ firstCrossing G = sym (ap foundMeans f) ∙ found-is x Y in
         let t : crosses G ≡ true =
-        elim (pair .alternates) [ inl x ↦ crosses-decides G .complete (a, b, x) | inr x ↦ crosses-decides G .complete (b, a, x) ] in
-        let e = later-is G 7 (later-7 G four five few t) in
-        record { answers = sym (ap lengthOf e); carries = carries-pair G a b pair; output = sym (ap (λ x. written x old) e) }
+        elim (true-or-false (crosses G)) [
+          | inl t ↦ t
+          | inr z ↦ (let two : _≡_ {A = ℕ} 2 0 = ap length (is ∙ no-crossing G z) in absurd (omega arith))
+        ] in
+        let e : laterOf G ≡ refusedWith 7 (a ∷ b ∷ []) = later-is G 7 (later-7 G four five few t) ∙ ap (refusedWith 7) (sym is) in
+        record { answers = sym (ap lengthOf e); output = sym (ap (λ x. written x old) e) }
 
-    pub finish-none : (x : Found) → Finds ms (2 * length ms) (tourIn w) x → x ≡ the-found.Nothing → (n : ℕ) → n ≡ cells (lent ts ms s) Kind.point
+    pub finish-none : (x : Found) → foundMeans x ≡ crossingIn (charted ms w) → x ≡ the-found.Nothing → (n : ℕ) → n ≡ cells (lent ts ms s) Kind.point
         → (v : List ℕ) → Chart (lent ts ms s) v → (r : ℕ) (old new : List ℕ)
         → r ≡ length (chartBytes n ms v) → new ≡ laid (chartBytes n ms v) old
         → PacksLater (lent ts ms s) (packedMeans (the-case.Length r)) old new
     finish-none x Y f n e v K r old new p q =
-        let X : Finds ms (2 * length ms) (tourIn w) the-found.Nothing = rw f at Y in
+        let is : [] ≡ firstCrossing G = sym (ap foundMeans f) ∙ found-is x Y in
         let t : crosses G ≡ false =
         elim (true-or-false (crosses G)) [
-          | inl c ↦ (let y = crosses-decides G .sound c in absurd (X (y .0) (y .1) (crossing-from ts ms s six w C (y .0) (y .1) (y .2))))
-          | inr f ↦ f
+          | inl c ↦ (let X = first-crossing G (six .range) .first [] .1 (c, is) in
+              let two : _≡_ {A = ℕ} 0 2 = ap length (X .carried) in absurd (omega arith))
+          | inr z ↦ z
         ] in
         let a = later-is G 0 (later-none G four five few t) in
         let b = chart-bytes ts ms s six v K n e in
         record {
           answers = ap answer (p ∙ ap length b) ∙ sym (ap lengthOf a);
-          carries = carries-length G r;
           output = q ∙ ap (λ x. laid x old) b ∙ sym (ap (λ x. written x old) a);
         }

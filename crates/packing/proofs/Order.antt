@@ -25,16 +25,16 @@ use Rattle.bits.specs.Writes.{cleared}
 use Rattle.bits.proofs.Stores.{cleared-length, cleared-first, cleared-rest}
 use Rattle.drawing.specs.Drawing.{Drawing, borders}
 use Rattle.drawing.specs.Checks.{LengthsFit, InRange, lengthsFit, inRange, distinct, joined, fewMarks, crosses}
-use Rattle.drawing.specs.Session.{answer}
+use Rattle.drawing.specs.Session.{Answer, answer, refusedWith, refused}
 use Rattle.drawing.proofs.Checks.{lengths-decides, range-decides}
 use Rattle.format.specs.Bytes.{longest}
-use Rattle.format.specs.Open.{unless, afterRefusal}
-use Rattle.format.specs.Pack.{packedBytes, packRefusal, packOf}
+use Rattle.format.specs.Open.{unless, afterRefusalWith}
+use Rattle.format.specs.Pack.{packedBytes, packRefusal, packCarries, packOf}
 use Rattle.drawing.specs.Laid.{lent}
 use Rattle.checking.specs.Lent.{Blank, Kept}
 use Rattle.packing.specs.declared.answers.Packed.the-variants as the-case
-use Rattle.packing.specs.Answers.{Reply, packedMeans, lengthOf, written, workLeft, laterRefusal, laterOf, Packs, PacksLater}
-use Rattle.packing.proofs.Later.{passes, fails, number-not, carries-none}
+use Rattle.packing.specs.Answers.{packedMeans, lengthOf, written, workLeft, laterRefusal, laterOf, Packs, PacksLater}
+use Rattle.packing.proofs.Later.{passes, fails, carries-none}
 
 module _ (D : Drawing) (w o : ℕ) where
   first-1 : lengthsFit D ≡ false → packRefusal D w o ≡ 1
@@ -60,21 +60,20 @@ module _ (D : Drawing) (w o : ℕ) where
         unfolding packRefusal laterRefusal
         first-later b = rw (a, le-leb (6 * borders D) w l, le-leb longest o k, b)
 
-  pack-is : (k : ℕ) → packRefusal D w o ≡ k → packOf D w o ≡ afterRefusal k (answer (packedBytes D))
+  pack-is : (k : ℕ) → packRefusal D w o ≡ k → packOf D w o ≡ afterRefusalWith k (packCarries D k) (answer (packedBytes D))
   unfolding packOf
-  pack-is k e = ap (λ j. afterRefusal j (answer (packedBytes D))) e
+  pack-is k e = ap (λ j. afterRefusalWith j (packCarries D j) (answer (packedBytes D))) e
 
 early : (D : Drawing) (work out : List ℕ) (k : ℕ) → k < 3 → packRefusal D (length work) (length out) ≡ suc k
     → Packs D work work out out (packedMeans (the-case.Declined (suc k)))
 early D work out k l e =
-    let a = pack-is D (length work) (length out) (suc k) e in
+    let a : packOf D (length work) (length out) ≡ refused (suc k)
+    = pack-is D (length work) (length out) (suc k) e ∙ ap (refusedWith (suc k)) (carries-none D (suc k) (omega arith)) in
     let t : workLeft (suc k) (borders D) work ≡ work
     = rw (lt-ltb 0 (suc k) (omega arith), le-leb (suc k) 3 (omega arith)) in
     record {
       answers = sym (ap lengthOf a);
-      carries = carries-none D (the-case.Declined (suc k)) (number-not (suc k) (omega arith)) refl;
-      working = sym (ap (λ j. workLeft j (borders D) work) e ∙ t);
-      output = sym (ap (λ x. written x out) a);
+      leaves = record { working = sym (ap (λ j. workLeft j (borders D) work) e ∙ t); output = sym (ap (λ x. written x out) a) };
     }
 
 -- a number of 4 to 7, or none
@@ -146,18 +145,20 @@ module _ (ts ms : List ℕ) (s : ℕ) (old work : List ℕ) where
 
           module _ (b : not q ≡ false) where
             pub pack-done : (u v x : List ℕ) → u ≡ cleared (6 * length ms) work → Kept (6 * length ms) u v → x ≡ cleared (6 * length ms) v
-                → (a : Reply) (new : List ℕ) → PacksLater (lent ts ms s) a old new → Packs (lent ts ms s) work x old new a
+                → (a : Answer ℕ) (new : List ℕ) → PacksLater (lent ts ms s) a old new → Packs (lent ts ms s) work x old new a
             unfolding borders laterOf packOf
             pack-done u v x e K f a new P =
                 let later : packRefusal E (length work) (length old) ≡ laterRefusal E
                 = first-later E (length work) (length old) fit l k (passes q (inRange E) g b) in
-                let same : packOf E (length work) (length old) ≡ laterOf E = ap (λ j. afterRefusal j (answer (packedBytes E))) later in
+                let same : packOf E (length work) (length old) ≡ laterOf E = ap (λ j. afterRefusalWith j (packCarries E j) (answer (packedBytes E))) later in
                 record {
                   answers = P .answers ∙ sym (ap lengthOf same);
-                  carries = P .carries;
-                  working =
-                      f
-                      ∙ cleared-again (6 * length ms) work v (rw e at K)
-                      ∙ sym (ap (λ j. workLeft j (length ms) work) later ∙ late-left E (length ms) work);
-                  output = P .output ∙ sym (ap (λ y. written y old) same);
+                  leaves =
+                      record {
+                        working =
+                            f
+                            ∙ cleared-again (6 * length ms) work v (rw e at K)
+                            ∙ sym (ap (λ j. workLeft j (length ms) work) later ∙ late-left E (length ms) work);
+                        output = P .output ∙ sym (ap (λ y. written y old) same);
+                      };
                 }

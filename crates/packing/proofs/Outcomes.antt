@@ -1,8 +1,8 @@
--- What a caller of packing knows from its reply: the map, or the refusal.
+-- What a caller of packing knows from its answer: the map, or the refusal.
 --
 -- Accepted a n new == packing answered n: a is a map, which the first n bytes of the output new are
--- accepted         == so it is where the reply is a length
--- declined         == a refusal is replied where there is one
+-- accepted         == so it is where a length is answered
+-- declined         == a refusal is answered where there is one
 -- Assumes nothing.
 use mathlib.Core.Path.{_≡_, refl, sym, ap, _∙_}
 use mathlib.Core.List.{List}
@@ -10,7 +10,7 @@ use Prim.Native.Nat.{ℕ, _≤_}
 use native.Mathlib.Omega.{arith}
 use lib.ListN.{length, take, drop, length-append}
 use lib.Seq.{take-at}
-use Rattle.drawing.specs.Session.{Answer, answer, refused}
+use Rattle.drawing.specs.Session.{Answer, answer, refusedWith}
 use Rattle.packing.specs.Answers.{lengthOf, written}
 
 pub record Accepted (a : Answer (List ℕ)) (n : ℕ) (new : List ℕ) : Type 0 where
@@ -28,8 +28,8 @@ accepted n old new (answer s) e h =
       within = omega (arith, l, ap length h, length-append s (drop (length s) old));
       bytes = ap (take n) h ∙ take-at s (drop (length s) old) n (sym l);
     }
-accepted n old new (refused j) e h = let z : _≡_ {A = ℕ} 0 1 = cc in absurd (omega arith)
+accepted n old new (refusedWith j xs) e h = let z : _≡_ {A = ℕ} 0 1 = cc in absurd (omega arith)
 
-pub declined : (j : ℕ) (a : Answer (List ℕ)) → refused j ≡ lengthOf a → a ≡ refused j
-declined j (answer s) e = let z : _≡_ {A = ℕ} 0 1 = cc in absurd (omega arith)
-declined j (refused i) e = cc
+pub declined : (j : ℕ) (xs : List ℕ) (a : Answer (List ℕ)) → refusedWith j xs ≡ lengthOf a → a ≡ refusedWith j xs
+declined j xs (answer s) e = let z : _≡_ {A = ℕ} 0 1 = cc in absurd (omega arith)
+declined j xs (refusedWith i ys) e = cc

@@ -5,7 +5,7 @@
 -- pack-lengths   == unless it is 1, the lists of the drawing fit
 -- pack-number    == what packing says has the number of its refusal
 -- length-small, pair-small, pack-small == the numbers in such a case fit: a length its cell, two borders their bits
--- reply-read     == what is returned for a case, with the cell, is read as its reply
+-- returned-read  == what is returned for a case is read as its number and the numbers it carries
 -- pack-returns   == what is returned, and left in the memory lent, is what the contract says
 -- length-value, pair-values, unpacked-value == the numbers in an answer that fits
 -- unpack-small   == m fits its cell
@@ -15,12 +15,11 @@ use mathlib.Core.Path.{_≡_, refl, sym, ap, _∙_}
 use mathlib.Core.Logic.{_≢_, inl, inr}
 use mathlib.Core.Bool.{Bool, true, false, not, _&&_}
 use mathlib.Core.List.{List, [], _∷_, _++_}
-use Prim.Native.Nat.{ℕ, zero, suc, _+_, _*_, _/_, _%_, _<_, _≤_}
+use Prim.Native.Nat.{ℕ, zero, suc, _+_, _*_, _/_, _%_, _<_, _≤_, min, max}
 use native.Mathlib.Omega.{arith}
 use borrow.Author.Needs.{needs}
-use borrow.Author.Tests.{ne-eqb}
-use lib.Dec.{eqb, leb}
-use lib.ListN.{length, length-append}
+use lib.Dec.{leb}
+use lib.ListN.{length, getD, length-append}
 use Rattle.count.specs.Below.{pick}
 use Rattle.count.proofs.Counts.{count-le}
 use Rattle.count.proofs.Lists.{table-length, gather-length}
@@ -30,21 +29,23 @@ use Rattle.words.specs.declared.family.Family.the-variants.{Round as round, Squ
 use Rattle.words.specs.Word.{sameFamily, Word}
 use Rattle.bits.specs.Strings.{bytesFor}
 use Rattle.drawing.specs.Drawing.{Drawing, borders, ends}
-use Rattle.drawing.specs.Checks.{LengthsFit, CrossingPair, lengthsFit, inRange, distinct, joined, fewMarks, crosses}
-use Rattle.drawing.specs.Session.{Answer, answer, refused, numberOf, valueOf}
+use Rattle.drawing.specs.Checks.{LengthsFit, lengthsFit, inRange, distinct, joined, fewMarks, crosses, smallerFirst, FirstCrossing}
+use Rattle.drawing.specs.Session.{Answer, answer, refusedWith, refused, numberOf, carriedBy, valueOf}
 use Rattle.drawing.proofs.Checks.{lengths-decides}
 use Rattle.format.specs.Bytes.{sizeIn, wordIn, familyBit, closingBit, stringA, stringB, bytesOf, mapBytes}
-use Rattle.format.specs.Open.{unless, afterRefusal, openRefusal, opened}
-use Rattle.format.specs.Pack.{wordOf, roomFits, packedBytes, packRefusal, packOf, positionIn, drawingOf, unpackOf}
+use Rattle.format.specs.Open.{unless, afterRefusalWith, afterRefusal, openRefusal, opened}
+use Rattle.format.specs.Pack.{wordOf, roomFits, packedBytes, packRefusal, packCarries, packOf, positionIn, drawingOf, unpackOf}
 use Rattle.format.proofs.Bits.{bytes-of-length}
 use Rattle.format.proofs.Passes.{opens-passes}
+use Rattle.format.proofs.Refusals.{pack-crosses}
 use Rattle.packing.specs.declared.answers.Packed.{Packed}
-use Rattle.packing.specs.Answers.{Reply, packedMeans, lengthOf, Carries, Packs}
+use Rattle.packing.specs.Answers.{packedMeans, lengthOf, Packs}
+use Rattle.packing.proofs.Outcomes.{declined}
 use Rattle.unpacking.specs.declared.answers.Unpacked.{Unpacked}
 use Rattle.drawing.specs.Laid.{bordersOf}
 use Rattle.unpacking.specs.Answers.{unpackedMeans}
 use Rattle.pmap.specs.Cells.{cellAfter}
-use Rattle.pmap.specs.Desk.{smallerIn, largerIn, saidIn, replyIn, PackReturns, returned, Small}
+use Rattle.pmap.specs.Desk.{smallerIn, largerIn, PackReturns, returned, Small}
 use Rattle.pmap.proofs.Given.{cell-same}
 
 -- ---- the bytes of a drawing's map
@@ -81,41 +82,41 @@ unless-most : (N : ℕ) (t : Bool) (k rest : ℕ) → k ≤ N → rest ≤ N →
 unless-most N true k rest h l = l
 unless-most N false k rest h l = h
 
-number-told : (k : ℕ) (s : List ℕ) → numberOf (lengthOf (afterRefusal k (answer s))) ≡ k
+number-told : (k : ℕ) (xs s : List ℕ) → numberOf (afterRefusalWith k xs (answer s)) ≡ k
 unfolding numberOf
-number-told zero s = refl
-number-told (suc k) s = refl
+number-told zero xs s = refl
+number-told (suc k) xs s = refl
 
 number-length : (a : Answer (List ℕ)) → numberOf (lengthOf a) ≡ numberOf a
 unfolding numberOf
 number-length (answer s) = refl
-number-length (refused k) = refl
+number-length (refusedWith k xs) = refl
 
-length-told : (k : ℕ) (s : List ℕ) (l : ℕ) → answer l ≡ lengthOf (afterRefusal k (answer s)) → l ≡ length s
-length-told zero s l e = cc
-length-told (suc k) s l e = let z : _≡_ {A = ℕ} 0 1 = cc in absurd (omega arith)
+carried-length : (a : Answer (List ℕ)) → carriedBy (lengthOf a) ≡ carriedBy a
+unfolding carriedBy
+carried-length (answer s) = refl
+carried-length (refusedWith k xs) = refl
 
-no-refusal-0 : (k : ℕ) (s : List ℕ) → refused 0 ≢ lengthOf (afterRefusal k (answer s))
-no-refusal-0 zero s e = let z : _≡_ {A = ℕ} 0 1 = cc in omega arith
-no-refusal-0 (suc k) s e = let z : 0 ≡ suc k = cc in omega arith
+length-told : (k : ℕ) (xs s : List ℕ) (l : ℕ) → answer l ≡ lengthOf (afterRefusalWith k xs (answer s)) → l ≡ length s
+length-told zero xs s l e = cc
+length-told (suc k) xs s l e = let z : _≡_ {A = ℕ} 0 1 = cc in absurd (omega arith)
 
-said-number : (k l : ℕ) → numberOf (saidIn k l) ≡ k
-unfolding numberOf
-said-number zero l = refl
-said-number (suc k) l = refl
+-- the status and the two numbers above it, as they are read from the number that is returned
+record Read (r : ℕ) (a : Answer ℕ) : Type 0 where
+  low : r % 256 ≡ numberOf a
+  smaller : smallerIn r ≡ getD (carriedBy a) 0 0
+  larger : largerIn r ≡ getD (carriedBy a) 1 0
 
--- 7 with its pair, as it is read
-seven-read : (a b r : ℕ) → r ≡ 7 + 256 * a + 1048576 * b → a < 4096 → b < 4096 → (r % 256 ≡ 7) × (smallerIn r ≡ a) × (largerIn r ≡ b)
-seven-read a b r h k l =
+read-bare : (r : ℕ) → r < 256 → Read r (refused r)
+unfolding numberOf carriedBy
+read-bare r l = record { low = omega arith; smaller = omega arith; larger = omega arith }
+
+read-pair : (a b r : ℕ) → r ≡ 7 + 256 * a + 1048576 * b → a < 4096 → b < 4096 → Read r (refusedWith 7 (a ∷ b ∷ []))
+unfolding numberOf carriedBy
+read-pair a b r h k l =
     let x : a ≡ smallerIn r = omega arith in
     let y : b ≡ largerIn r = omega arith in
-    (omega arith, sym x, sym y)
-
--- a number that is not 0 and not 7, as it is read
-read-refused : (k : ℕ) (xs : List ℕ) → k ≢ 0 → k ≢ 7 → (l : ℕ)
-    → _≡_ {A = Reply} (record { says = saidIn k l; carried = pick (eqb k 7) xs [] }) (record { says = refused k; carried = [] })
-read-refused zero xs d s l = absurd (d refl)
-read-refused (suc k) xs d s l = rw (ne-eqb (suc k) 7 s)
+    record { low = omega arith; smaller = sym x; larger = sym y }
 
 module _ (D : Drawing) (w o : ℕ) where
   number-most : packRefusal D w o ≤ 7
@@ -136,17 +137,13 @@ module _ (D : Drawing) (w o : ℕ) where
         | inr f ↦ absurd (n (rw f))
       ]
 
-  refusal-told : numberOf (packOf D w o) ≡ packRefusal D w o
-  unfolding packOf
-  refusal-told = sym (number-length (afterRefusal (packRefusal D w o) (answer (packedBytes D)))) ∙ number-told (packRefusal D w o) (packedBytes D)
-
   -- what packing says
   pack-number : (a : Answer ℕ) → a ≡ lengthOf (packOf D w o) → numberOf a ≡ packRefusal D w o
-  pack-number a e = ap numberOf e ∙ number-length (packOf D w o) ∙ refusal-told
-
-  never-0 : refused 0 ≢ lengthOf (packOf D w o)
   unfolding packOf
-  never-0 = no-refusal-0 (packRefusal D w o) (packedBytes D)
+  pack-number a e =
+      ap numberOf e
+      ∙ number-length (packOf D w o)
+      ∙ number-told (packRefusal D w o) (packCarries D (packRefusal D w o)) (packedBytes D)
 
   length-small : (l : ℕ) → answer l ≡ lengthOf (packOf D w o) → l < 65536
   unfolding packOf numberOf
@@ -154,72 +151,52 @@ module _ (D : Drawing) (w o : ℕ) where
       let n = pack-number (answer l) e in
       omega (
         arith,
-        length-told (packRefusal D w o) (packedBytes D) l e,
+        length-told (packRefusal D w o) (packCarries D (packRefusal D w o)) (packedBytes D) l e,
         bytes-small D (pack-lengths (λ one. omega arith)),
       )
 
-  pair-small : (a b : ℕ) → refused 7 ≡ lengthOf (packOf D w o) → CrossingPair D a b → (a < 4096) × (b < 4096)
-  unfolding numberOf borders
-  pair-small a b e P =
-      let n = pack-number (refused 7) e in
-      let fit = pack-lengths (λ one. omega arith) in
-      elim (P .alternates) [ inl x ↦ (omega arith, omega arith) | inr x ↦ (omega arith, omega arith) ]
+  -- the two borders of a crossing are borders of the drawing
+  pair-small : (a b : ℕ) → refusedWith 7 (a ∷ b ∷ []) ≡ lengthOf (packOf D w o) → (a < 4096) × (b < 4096)
+  unfolding borders
+  pair-small a b e =
+      let c = pack-crosses D w o (a ∷ b ∷ []) .0 (declined 7 (a ∷ b ∷ []) (packOf D w o) e) in
+      let fit : LengthsFit D = c .1 .lengths in
+      let X : FirstCrossing D (a ∷ b ∷ []) = c .2 in
+      let is : a ∷ b ∷ [] ≡ smallerFirst (X .a) (X .b) = X .carried in
+      let x : a ≡ min (X .a) (X .b) = cc in
+      let y : b ≡ max (X .a) (X .b) = cc in
+      let la = X .crossing .first-border in
+      let lb = X .crossing .second-border in
+      (omega (arith, fit .half, fit .most), omega (arith, fit .half, fit .most))
 
-  -- the pair that the case itself has
-  carried-pair : (a b : ℕ) → Carries D (packedMeans (Packed.Crossing a b)) → CrossingPair D a b
-  unfolding numberOf
-  carried-pair a b C =
-      let P = C .pair refl in
-      let e : a ∷ b ∷ [] ≡ P .smaller ∷ P .larger ∷ [] = P .both in
-      let x : a ≡ P .smaller = cc in
-      let y : b ≡ P .larger = cc in
-      rw (x, y) (P .crossing)
+  small : (p : Packed) → packedMeans p ≡ lengthOf (packOf D w o) → Small p
+  small (Packed.Length l) e = length-small l e
+  small (Packed.Crossing a b) e = pair-small a b e
+  small (Packed.Declined k) e = tt
 
-  small : (p : Packed) → packedMeans p .says ≡ lengthOf (packOf D w o) → Carries D (packedMeans p) → Small p
-  small (Packed.Length l) e C = length-small l e
-  small (Packed.Crossing a b) e C = pair-small a b e (carried-pair a b C)
-  small (Packed.Declined k) e C = tt
-
-  -- 7 does not come without its pair
-  seven-not : (k : ℕ) → Carries D (packedMeans (Packed.Declined k)) → k ≢ 7
-  unfolding numberOf
-  seven-not k C e = let two : _≡_ {A = ℕ} 0 2 = ap length (C .pair e .both) in omega arith
-
-  reply-read : (p : Packed) → packedMeans p .says ≡ lengthOf (packOf D w o) → Carries D (packedMeans p)
-      → (r l l' : ℕ) → r ≡ returned p → l' ≡ cellAfter (packedMeans p .says) l → replyIn r l' ≡ packedMeans p
-  unfolding cellAfter numberOf
-  reply-read (Packed.Length x) e C r l l' h g = rw (h, g)
-  reply-read (Packed.Crossing a b) e C r l l' h g =
-      let s = pair-small a b e (carried-pair a b C) in
-      let v = seven-read a b r h (s .0) (s .1) in
-      rw (v .0, v .1, v .2)
-  reply-read (Packed.Declined k) e C r l l' h g =
+  returned-read : (p : Packed) → packedMeans p ≡ lengthOf (packOf D w o) → (r : ℕ) → r ≡ returned p → Read r (packedMeans p)
+  unfolding numberOf carriedBy
+  returned-read (Packed.Length x) e r h = record { low = omega arith; smaller = omega arith; larger = omega arith }
+  returned-read (Packed.Crossing a b) e r h = let s = pair-small a b e in read-pair a b r h (s .0) (s .1)
+  returned-read (Packed.Declined k) e r h =
       let n = pack-number (refused k) e in
-      let low : r % 256 ≡ k = omega (arith, number-most) in
-      rw low (read-refused k (smallerIn r ∷ largerIn r ∷ []) (λ z. never-0 (ap refused (sym z) ∙ e)) (seven-not k C) l')
-
-  rest-none : (p : Packed) → packedMeans p .says ≡ lengthOf (packOf D w o) → (r : ℕ) → r ≡ returned p → r % 256 ≢ 7 → r / 256 ≡ 0
-  unfolding numberOf
-  rest-none (Packed.Length x) e r h d = omega arith
-  rest-none (Packed.Crossing a b) e r h d = absurd (d (omega arith))
-  rest-none (Packed.Declined k) e r h d = let n = pack-number (refused k) e in omega (arith, number-most)
-
-  low-is : (r l : ℕ) (p : Reply) → replyIn r l ≡ p → r % 256 ≡ numberOf (p .says)
-  low-is r l p e = sym (said-number (r % 256) l) ∙ ap (λ q. numberOf (q .says)) e
+      rw h (read-bare k (omega (arith, number-most)))
 
 module _ (D : Drawing) (work work' out out' : List ℕ) (p : Packed) (P : Packs D work work' out out' (packedMeans p)) where
   pub pack-small : Small p
-  pack-small = small D (length work) (length out) p (P .answers) (P .carries)
+  pack-small = small D (length work) (length out) p (P .answers)
 
-  pub pack-returns : (l l' r : ℕ) → r ≡ returned p → l' ≡ cellAfter (packedMeans p .says) l → PackReturns D work work' out out' l l' r
+  pub pack-returns : (l l' r : ℕ) → r ≡ returned p → l' ≡ cellAfter (packedMeans p) l → PackReturns D work work' out out' l l' r
   pack-returns l l' r h g =
       let A = packOf D (length work) (length out) in
-      let e : replyIn r l' ≡ packedMeans p = reply-read D (length work) (length out) p (P .answers) (P .carries) r l l' h g in
+      let R : Read r (packedMeans p) = returned-read D (length work) (length out) p (P .answers) r h in
+      let carried : carriedBy (packedMeans p) ≡ carriedBy A = ap carriedBy (P .answers) ∙ carried-length A in
       record {
-        low = low-is D (length work) (length out) r l' (packedMeans p) e ∙ ap numberOf (P .answers) ∙ number-length A;
-        none = rest-none D (length work) (length out) p (P .answers) r h;
-        packs = rw e P;
-        cell = cell-same l' l (packedMeans p .says) (lengthOf A) g (P .answers);
+        low = R .low ∙ ap numberOf (P .answers) ∙ number-length A;
+        smaller = R .smaller ∙ ap (λ xs. getD xs 0 0) carried;
+        larger = R .larger ∙ ap (λ xs. getD xs 1 0) carried;
+        cell = cell-same l' l (packedMeans p) (lengthOf A) g (P .answers);
+        leaves = P .leaves;
       }
 
 -- ---- the numbers in an answer of packing that is small
@@ -234,7 +211,7 @@ module _ (p : Packed) (small : Small p) where
 number-borders : (a : Answer Drawing) → numberOf (bordersOf a) ≡ numberOf a
 unfolding numberOf
 number-borders (answer D) = refl
-number-borders (refused k) = refl
+number-borders (refusedWith k xs) = refl
 
 borders-small : (o : ℕ) (t : Bool) (D : Drawing) → (o ≡ 0 → borders D < 65536)
     → valueOf (bordersOf (afterRefusal o (pick t (answer D) (refused 16)))) < 65536

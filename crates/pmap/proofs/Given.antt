@@ -10,7 +10,7 @@ use mathlib.Core.Path.{_≡_, refl, ap, _∙_}
 use mathlib.Core.List.{List}
 use Prim.Native.Nat.{ℕ, _<_}
 use borrow.Author.Needs.{needs}
-use Rattle.drawing.specs.Session.{Answer, answer, refused, numberOf, valueOf, Outcome}
+use Rattle.drawing.specs.Session.{Answer, answer, refusedWith, numberOf, valueOf, Outcome}
 use Rattle.format.specs.Bytes.{Size}
 use Rattle.format.specs.Open.{openOf}
 use Rattle.opening.specs.declared.answers.Opened.{Opened}
@@ -62,7 +62,7 @@ pub ruleset open-all = (status-same, borders-same, points-same, borders-fit, poi
 number-left : (o : Answer Outcome) → numberOf (placeLeft o) ≡ numberOf o
 unfolding numberOf
 number-left (answer x) = refl
-number-left (refused k) = refl
+number-left (refusedWith k xs) = refl
 
 pub left-status : (r : ℕ) (a : Answer ℕ) (o : Answer Outcome) → r ≡ numberOf a → a ≡ placeLeft o → r ≡ numberOf o
 left-status r a o h e = h ∙ ap numberOf e ∙ number-left o

@@ -6,22 +6,22 @@
 -- Assumes nothing.
 use mathlib.Core.Path.{_≡_}
 use Prim.Native.Nat.{ℕ}
-use Rattle.drawing.specs.Session.{Answer, answer, refused, numberOf}
+use Rattle.drawing.specs.Session.{Answer, answer, refusedWith, numberOf}
 use Rattle.format.specs.Bytes.{Size}
 
 -- 01: "Output memory is unchanged."
 unfoldable pub cellAfter : Answer ℕ → ℕ → ℕ
 cellAfter (answer x) old = x
-cellAfter (refused k) old = old
+cellAfter (refusedWith k xs) old = old
 
 -- 01: "Opening gives m and n"
 abbrev pub bordersGiven : Answer Size → Answer ℕ
 bordersGiven (answer z) = answer (z .m)
-bordersGiven (refused k) = refused k
+bordersGiven (refusedWith k xs) = refusedWith k xs
 
 abbrev pub pointsGiven : Answer Size → Answer ℕ
 pointsGiven (answer z) = answer (z .n)
-pointsGiven (refused k) = refused k
+pointsGiven (refusedWith k xs) = refusedWith k xs
 
 -- the C interface: "Status 0 is success, else the refusal's number, and then nothing was written."
 pub record Tells {A : Type 0} (a : Answer A) : Type 0 where

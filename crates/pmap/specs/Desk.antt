@@ -1,23 +1,19 @@
 -- What packing returns to a C host: the status, and with 7 the pair of borders beside it, in one number of 32 bits.
 --
 -- smallerIn r, largerIn r == the numbers that bits 8 to 19 and bits 20 to 31 of r hold
--- replyIn r l      == the reply that is read from the number r and the cell l of the length
--- PackReturns D work work' out out' l l' r == r is returned where packing D replies so; work, out and the cell l become work', out' and l'
+-- PackReturns D work work' out out' l l' r == r is returned by packing D; work, out and the cell l become work', out' and l'
 -- returned p       == what is returned for the case p
 -- Small p          == the numbers of the case p fit: a length its cell, two borders their bits
 -- Assumes nothing.
 use mathlib.Core.Path.{_≡_}
-use mathlib.Core.Logic.{_≢_}
-use mathlib.Core.List.{List, [], _∷_}
-use Prim.Native.Nat.{ℕ, zero, suc, _+_, _*_, _/_, _%_, _<_}
-use lib.Dec.{eqb}
-use lib.ListN.{length}
-use Rattle.count.specs.Below.{pick}
+use mathlib.Core.List.{List}
+use Prim.Native.Nat.{ℕ, _+_, _*_, _/_, _%_, _<_}
+use lib.ListN.{length, getD}
 use Rattle.drawing.specs.Drawing.{Drawing}
-use Rattle.drawing.specs.Session.{Answer, answer, refused, numberOf}
+use Rattle.drawing.specs.Session.{numberOf, carriedBy}
 use Rattle.format.specs.Pack.{packOf}
 use Rattle.packing.specs.declared.answers.Packed.{Packed}
-use Rattle.packing.specs.Answers.{Reply, Packs, lengthOf}
+use Rattle.packing.specs.Answers.{PackLeaves, lengthOf}
 use Rattle.pmap.specs.Cells.{cellAfter}
 
 abbrev pub smallerIn : ℕ → ℕ
@@ -28,18 +24,12 @@ largerIn r = r / 1048576
 
 -- the C interface: "low 8 bits: 0 or the refusal; with 7, bits 8 to 19 hold the smaller border and bits 20 to 31 the larger;
 -- else those bits are 0"
-abbrev pub saidIn : ℕ → ℕ → Answer ℕ
-saidIn zero l = answer l
-saidIn (suc k) l = refused (suc k)
-
-abbrev pub replyIn : ℕ → ℕ → Reply
-replyIn r l = record { says = saidIn (r % 256) l; carried = pick (eqb (r % 256) 7) (smallerIn r ∷ largerIn r ∷ []) [] }
-
 pub record PackReturns (D : Drawing) (work work' out out' : List ℕ) (l l' r : ℕ) : Type 0 where
   pub low : r % 256 ≡ numberOf (packOf D (length work) (length out))
-  pub none : r % 256 ≢ 7 → r / 256 ≡ 0
-  pub packs : Packs D work work' out out' (replyIn r l')
+  pub smaller : smallerIn r ≡ getD (carriedBy (packOf D (length work) (length out))) 0 0
+  pub larger : largerIn r ≡ getD (carriedBy (packOf D (length work) (length out))) 1 0
   pub cell : l' ≡ cellAfter (lengthOf (packOf D (length work) (length out))) l
+  pub leaves : PackLeaves D work work' out out'
 
 abbrev pub returned : Packed → ℕ
 returned (Packed.Length l) = 0

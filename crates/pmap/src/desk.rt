@@ -49,7 +49,7 @@ pub extern "C" fn pmap_unpack(map: &[u8], turning: &mut [u16], marks: &mut [u8],
 fn give_length(p: Packed, length: &mut u16) -> u32
     requires { ⌜ Small p ⌝ }
     ensures { λ r. ⌜ r ≡ returned p ⌝ }
-    ensures { λ _. ⌜ now (length .exit) ≡ cellAfter (packedMeans p .says) (now (length .entry)) ⌝ }
+    ensures { λ _. ⌜ now (length .exit) ≡ cellAfter (packedMeans p) (now (length .entry)) ⌝ }
 {
     match p {
         Packed::Length(l) => {

@@ -14,7 +14,7 @@ use lib.ListN.{length, take, drop, length-append}
 use lib.Seq.{take-at}
 use Rattle.drawing.specs.Drawing.{Drawing, borders}
 use Rattle.drawing.specs.Laid.{bordersOf, turningAfter, marksAfter}
-use Rattle.drawing.specs.Session.{Answer, answer, refused}
+use Rattle.drawing.specs.Session.{Answer, answer, refusedWith, refused}
 use Rattle.drawing.specs.Laid.{lent}
 use Rattle.text.specs.Input.{Denotes, readText}
 use Rattle.text.specs.Listing.{refusedLine, listed, packed, placesOf}
@@ -44,7 +44,7 @@ module _ (s t k t′ k′ : List ℕ) (m : ℕ) where
         marks-within = rw hk (omega (arith, length-append (D .marks) (drop (length (D .marks)) k)));
         drawing = r ∙ ap answer d;
       }
-  read-as (refused j) r e ht hk = let z : _≡_ {A = ℕ} 0 1 = cc in absurd (omega arith)
+  read-as (refusedWith j xs) r e ht hk = let z : _≡_ {A = ℕ} 0 1 = cc in absurd (omega arith)
 
   pub read-denoted : answer m ≡ bordersOf (readText s) → t′ ≡ turningAfter (readText s) t → k′ ≡ marksAfter (readText s) k → Denoted s m t′ k′
   read-denoted e ht hk = read-as (readText s) refl e ht hk
@@ -55,7 +55,7 @@ denoted-printed s t k m N = ap (λ a. listed (packed a)) (N .drawing)
 
 declined-is : (k : ℕ) (a : Answer Drawing) → refused k ≡ bordersOf a → a ≡ refused k
 declined-is k (answer D) e = let z : _≡_ {A = ℕ} 0 1 = cc in absurd (omega arith)
-declined-is k (refused j) e = cc
+declined-is k (refusedWith j xs) e = cc
 
 pub declined-printed : (s : List ℕ) (k : ℕ) → refused k ≡ bordersOf (readText s) → placesOf s ≡ refusedLine k
 unfolding placesOf listed packed

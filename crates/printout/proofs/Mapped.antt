@@ -7,7 +7,7 @@
 -- Assumes nothing.
 use mathlib.Core.Path.{_≡_, refl, sym, ap, _∙_}
 use mathlib.Core.Bool.{Bool, true, false, not}
-use mathlib.Core.List.{List}
+use mathlib.Core.List.{List, [], _∷_}
 use Prim.Native.Nat.{ℕ, _*_, _≤_}
 use native.Mathlib.Omega.{arith}
 use lib.Dec.{leb}
@@ -16,11 +16,11 @@ use borrow.Author.Tests.{le-leb}
 use Rattle.count.proofs.Logic.{both}
 use Rattle.drawing.specs.Drawing.{Drawing, borders}
 use Rattle.drawing.specs.Checks.{lengthsFit, inRange, distinct, joined, fewMarks, crosses}
-use Rattle.drawing.specs.Session.{Answer, answer, refused}
+use Rattle.drawing.specs.Session.{answer, refusedWith}
 use Rattle.drawing.proofs.Checks.{lengths-decides}
 use Rattle.format.specs.Bytes.{longest}
-use Rattle.format.specs.Open.{unless, openRefusal, afterRefusal, opened}
-use Rattle.format.specs.Pack.{roomFits, packedBytes, packRefusal, packOf}
+use Rattle.format.specs.Open.{unless, openRefusal, afterRefusalWith, afterRefusal, opened}
+use Rattle.format.specs.Pack.{roomFits, packedBytes, packRefusal, packCarries, packOf}
 use Rattle.text.specs.Listing.{refusedLine, listed, packed}
 use Rattle.packing.specs.Answers.{packedMeans, lengthOf, written}
 use Rattle.packing.specs.declared.answers.Packed.{Packed}
@@ -47,7 +47,7 @@ module _ (D : Drawing) (work out : ℕ) (long : 12288 ≤ work) (wide : longest 
   unfolding packed packOf packRefusal
   room-enough =
       let rest : ℕ = unless (inRange D) 3 (unless (distinct D) 4 (unless (joined D) 5 (unless (fewMarks D) 6 (unless (not (crosses D)) 7 0)))) in
-      ap (λ k. afterRefusal k (answer (packedBytes D)))
+      ap (λ k. afterRefusalWith k (packCarries D k) (answer (packedBytes D)))
       (unless-same (lengthsFit D) 1 (unless (roomFits D work out) 2 rest) (unless (roomFits D (6 * borders D) longest) 2 rest)
       (λ e. ap (λ t. unless t 2 rest) (room-fits work out (few e) wide ∙ sym (room-fits (6 * borders D) longest (omega arith) (omega arith)))))
 
@@ -55,7 +55,7 @@ module _ (D : Drawing) (work out : ℕ) (long : 12288 ≤ work) (wide : longest 
 packed-opening : (D : Drawing) (work out : ℕ) (s : List ℕ) → packOf D work out ≡ answer s → openRefusal s ≡ 0
 unfolding packOf
 packed-opening D work out s e =
-    let a = after-answer (packRefusal D work out) (packedBytes D) s e in
+    let a = after-answer (packRefusal D work out) (packCarries D (packRefusal D work out)) (packedBytes D) s e in
     ap openRefusal (sym (a .1)) ∙ packed-opens D (pack-accepts D work out .0 (a .0) .1)
 
 -- ---- what is printed after packing
@@ -67,22 +67,22 @@ bytes-print : (s : List ℕ) → openRefusal s ≡ 0 → printed s ≡ listed (a
 unfolding printed opened
 bytes-print s o = ap (λ k. listed (afterRefusal k (answer s))) o
 
-module _ (D : Drawing) (work out : ℕ) (long : 12288 ≤ work) (wide : longest ≤ out) (r : Packed) (e : packedMeans r .says ≡ lengthOf (packOf D work out)) where
+module _ (D : Drawing) (work out : ℕ) (long : 12288 ≤ work) (wide : longest ≤ out) (r : Packed) (e : packedMeans r ≡ lengthOf (packOf D work out)) where
   pub map-mapped : (n : ℕ) (old map : List ℕ) → r ≡ the-case.Length n → map ≡ written (packOf D work out) old → Mapped D n map
   map-mapped n old map h w =
-      let A = accepted n old map (packOf D work out) (sym (ap (λ x. packedMeans x .says) h) ∙ e) w in
+      let A = accepted n old map (packOf D work out) (sym (ap packedMeans h) ∙ e) w in
       record {
         within = A .within;
         prints = ap printed (A .bytes) ∙ bytes-print (A .map) (packed-opening D work out (A .map) (A .is))
             ∙ ap listed (sym (A .is) ∙ room-enough D work out long wide);
       }
 
-  refusal-prints : (k : ℕ) → refused k ≡ lengthOf (packOf D work out) → listed (packed (answer D)) ≡ refusedLine k
+  refusal-prints : (k : ℕ) (xs : List ℕ) → refusedWith k xs ≡ lengthOf (packOf D work out) → listed (packed (answer D)) ≡ refusedLine k
   unfolding listed
-  refusal-prints k f = ap listed (sym (room-enough D work out long wide) ∙ declined k (packOf D work out) f)
+  refusal-prints k xs f = ap listed (sym (room-enough D work out long wide) ∙ declined k xs (packOf D work out) f)
 
   pub crossing-prints : (a b : ℕ) → r ≡ the-case.Crossing a b → listed (packed (answer D)) ≡ refusedLine 7
-  crossing-prints a b h = refusal-prints 7 (sym (ap (λ x. packedMeans x .says) h) ∙ e)
+  crossing-prints a b h = refusal-prints 7 (a ∷ b ∷ []) (sym (ap packedMeans h) ∙ e)
 
   pub declined-prints : (k : ℕ) → r ≡ the-case.Declined k → listed (packed (answer D)) ≡ refusedLine k
-  declined-prints k h = refusal-prints k (sym (ap (λ x. packedMeans x .says) h) ∙ e)
+  declined-prints k h = refusal-prints k [] (sym (ap packedMeans h) ∙ e)

@@ -4,14 +4,14 @@
 -- parsed-declined == after a refusal, which is 17, the text is refused with it
 -- Assumes nothing.
 use mathlib.Core.Path.{_≡_, refl, sym, _∙_, ap}
-use mathlib.Core.List.{List}
+use mathlib.Core.List.{List, []}
 use Prim.Native.Nat.{ℕ, _*_, _≤_}
 use native.Mathlib.Omega.{arith}
 use lib.ListN.{length, take, drop}
 use lib.Seq.{take-at}
 use Rattle.drawing.specs.Drawing.{Drawing, borders}
 use Rattle.drawing.specs.Laid.{bordersOf, turningAfter, marksAfter}
-use Rattle.drawing.specs.Session.{Answer, answer, refused}
+use Rattle.drawing.specs.Session.{Answer, answer, refusedWith, refused}
 use Rattle.text.specs.Input.{readText}
 use Rattle.text.proofs.Exact.{text-denotes, refuses-17}
 
@@ -23,7 +23,7 @@ parsed-lists s t k t′ k′ m = of-answer (readText s) refl
   where
     of-answer : (a : Answer Drawing) → readText s ≡ a → answer m ≡ bordersOf a → t′ ≡ turningAfter a t → k′ ≡ marksAfter a k
         → (m ≤ 2048) × (readText s ≡ answer (record { turning = take (2 * m) t′; marks = take m k′; start = 0 }))
-    of-answer (refused x) q c ht hk = let z : _≡_ {A = ℕ} 0 1 = cc in absurd (omega arith)
+    of-answer (refusedWith x xs) q c ht hk = let z : _≡_ {A = ℕ} 0 1 = cc in absurd (omega arith)
     of-answer (answer D) q c ht hk =
         let d = text-denotes s D q in
         let e : m ≡ length (D .marks) = cc in
@@ -37,7 +37,9 @@ parsed-declined s x = of-answer (readText s) refl
   where
     of-answer : (a : Answer Drawing) → readText s ≡ a → refused x ≡ bordersOf a → (x ≡ 17) × (readText s ≡ refused 17)
     of-answer (answer D) q c = let z : _≡_ {A = ℕ} 0 1 = cc in absurd (omega arith)
-    of-answer (refused y) q c =
-        let e : y ≡ 17 = refuses-17 s y q .0 in
+    of-answer (refusedWith y xs) q c =
+        let n : xs ≡ [] = cc in
+        let r : readText s ≡ refused y = q ∙ ap (refusedWith y) n in
+        let e : y ≡ 17 = refuses-17 s y r .0 in
         let f : x ≡ y = cc in
-        (f ∙ e, q ∙ ap refused e)
+        (f ∙ e, r ∙ ap refused e)

@@ -6,11 +6,11 @@
 -- session-rehearsed, crossing-rehearsed, declined-rehearsed == what `rehearse` returns
 -- Assumes nothing.
 use mathlib.Core.Path.{_≡_, sym, ap, _∙_}
-use mathlib.Core.List.{List}
+use mathlib.Core.List.{List, [], _∷_}
 use Prim.Native.Nat.{ℕ, _≤_}
 use lib.ListN.{length, take}
 use Rattle.drawing.specs.Drawing.{Drawing}
-use Rattle.drawing.specs.Session.{Answer, answer, refused, numberOf, Outcome}
+use Rattle.drawing.specs.Session.{Answer, answer, refusedWith, Outcome}
 use Rattle.format.specs.Pack.{packOf}
 use Rattle.packing.specs.Answers.{packedMeans, Packs}
 use Rattle.packing.proofs.Outcomes.{Accepted, accepted, declined}
@@ -42,7 +42,7 @@ module _ {D : Drawing} {old : Lists} {work out : List ℕ} {r : Packed} (P : Pac
   packing = packOf D (length (old .work)) (length (old .out))
 
   accepted-here : (n : ℕ) → r ≡ packed.Length n → Accepted packing n out
-  accepted-here n e = accepted n (old .out) out packing (sym (ap (λ p. packedMeans p .says) e) ∙ P .packs .answers) (P .packs .output)
+  accepted-here n e = accepted n (old .out) out packing (sym (ap packedMeans e) ∙ P .packs .answers) (P .packs .leaves .output)
 
   pub map-within : (n : ℕ) → r ≡ packed.Length n → n ≤ length out
   map-within n e = accepted-here n e .within
@@ -72,22 +72,23 @@ module _ {D : Drawing} {old : Lists} {work out : List ℕ} {r : Packed} (P : Pac
           answers = ha ∙ ap (λ a. answersAfter a (old .answers)) is;
         }
 
-    refused-rehearsed : (j : ℕ) → packedMeans r .says ≡ refused j
+    refused-rehearsed : (j : ℕ) (xs : List ℕ) → packedMeans r ≡ refusedWith j xs
         → Rehearses D first ks (the-case.NotPacked r) old (record { work = work; out = out; statuses = old .statuses; answers = old .answers })
-    unfolding rehearsalOf numberOf
-    refused-rehearsed j e =
-        let is : refused j ≡ rehearsed D first ks old = sym (ap (λ a. afterPacking a book) (declined j packing (sym e ∙ P .packs .answers))) in
+    unfolding rehearsalOf
+    refused-rehearsed j xs e =
+        let is : refusedWith j xs ≡ rehearsed D first ks old
+        = sym (ap (λ a. afterPacking a book) (declined j xs packing (sym e ∙ P .packs .answers))) in
         record {
           packs = P .packs;
-          means = ap (λ a. refused (numberOf a)) e ∙ ap placeLeft is;
+          means = e ∙ ap placeLeft is;
           statuses = ap (λ a. statusesAfter a (old .statuses)) is;
           answers = ap (λ a. answersAfter a (old .answers)) is;
         }
 
     pub crossing-rehearsed : (a b : ℕ) → r ≡ packed.Crossing a b
         → Rehearses D first ks (the-case.NotPacked r) old (record { work = work; out = out; statuses = old .statuses; answers = old .answers })
-    crossing-rehearsed a b e = refused-rehearsed 7 (ap (λ p. packedMeans p .says) e)
+    crossing-rehearsed a b e = refused-rehearsed 7 (a ∷ b ∷ []) (ap packedMeans e)
 
     pub declined-rehearsed : (k : ℕ) → r ≡ packed.Declined k
         → Rehearses D first ks (the-case.NotPacked r) old (record { work = work; out = out; statuses = old .statuses; answers = old .answers })
-    declined-rehearsed k e = refused-rehearsed k (ap (λ p. packedMeans p .says) e)
+    declined-rehearsed k e = refused-rehearsed k [] (ap packedMeans e)

@@ -3,20 +3,20 @@
 -- bookRanOf D i ks k l == a session on the book of D from the first number i, with the codes ks: the checks 2 and `noCall`, and the outcome
 -- rehearsalOf D w o i ks k l == packing's refusal, or the book's session
 -- packingSaid r        == what the case r says of packing: the map's length, or the refusal with what it carries
--- rehearsedMeans r     == what the case r stands for: packing's refusal, or the place that the session left, or its refusal
+-- rehearsedMeans r     == what the case r stands for: packing's refusal with what it carries, or the place that the session left, or its refusal
 -- Lists                == the four lists that are lent to be written
 -- rehearsed D i ks old == the answer of a rehearsal of D with these lists
 -- Rehearses D i ks r old new == r is what a rehearsal of D answers, and the lists old hold new after it
 -- Assumes nothing.
 use mathlib.Core.Path.{_≡_}
-use mathlib.Core.List.{List, []}
+use mathlib.Core.List.{List}
 use Prim.Native.Nat.{ℕ}
 use lib.ListN.{length}
 use Rattle.drawing.specs.Drawing.{Drawing}
-use Rattle.drawing.specs.Session.{Answer, answer, refused, numberOf, Outcome}
+use Rattle.drawing.specs.Session.{Answer, answer, refusedWith, Outcome}
 use Rattle.drawing.specs.Book.{bookSession}
 use Rattle.format.specs.Pack.{packOf}
-use Rattle.packing.specs.Answers.{Reply, packedMeans, Packs}
+use Rattle.packing.specs.Answers.{packedMeans, Packs}
 use Rattle.running.specs.Codes.{callOf, callsOf}
 use Rattle.running.specs.Runs.{runOf, placeLeft, statusesAfter, answersAfter, ranMeans}
 use Rattle.rehearsing.specs.declared.chain.Rehearsed.{Rehearsed}
@@ -29,7 +29,7 @@ bookRanOf D i ks k l = runOf ks k l (bookSession D i (callsOf ks))
 
 abbrev pub afterPacking : Answer (List ℕ) → Answer Outcome → Answer Outcome
 afterPacking (answer s) a = a
-afterPacking (refused k) a = refused k
+afterPacking (refusedWith k xs) a = refusedWith k xs
 
 -- 01: "Its map is the bytes that packing wrote, no more and no fewer."
 unfoldable pub rehearsalOf : Drawing → ℕ → ℕ → ℕ → List ℕ → ℕ → ℕ → Answer Outcome
@@ -37,12 +37,12 @@ unfolding packOf bookRanOf
 rehearsalOf D w o i ks k l = afterPacking (packOf D w o) (bookRanOf D i ks k l)
 
 -- 01: "For every case of an enum answer, a definition gives this paper's number and values."
-abbrev pub packingSaid : Rehearsed → Reply
+abbrev pub packingSaid : Rehearsed → Answer ℕ
 packingSaid (the-case.NotPacked p) = packedMeans p
-packingSaid (the-case.Session l r) = record { says = answer l; carried = [] }
+packingSaid (the-case.Session l r) = answer l
 
 abbrev pub rehearsedMeans : Rehearsed → Answer ℕ
-rehearsedMeans (the-case.NotPacked p) = refused (numberOf (packedMeans p .says))
+rehearsedMeans (the-case.NotPacked p) = packedMeans p
 rehearsedMeans (the-case.Session l r) = ranMeans r
 
 pub record Lists : Type 0 where

@@ -19,7 +19,7 @@ use lib.Dec.{leb}
 use lib.ListN.{length}
 use Rattle.count.specs.Below.{pick}
 use Rattle.drawing.specs.Laid.{laid}
-use Rattle.drawing.specs.Session.{Answer, answer, refused, numberOf, valueOf, Outcome}
+use Rattle.drawing.specs.Session.{Answer, answer, refusedWith, refused, numberOf, valueOf, Outcome}
 use Rattle.format.specs.Open.{opened}
 use Rattle.format.specs.Calls.{mapSession}
 use Rattle.running.specs.Codes.{callOf, callsOf, areCalls, noCall}
@@ -54,16 +54,16 @@ ranOf s i ks k l = opened s (runOf ks k l (mapSession s i (callsOf ks)))
 
 abbrev pub placeLeft : Answer Outcome → Answer ℕ
 placeLeft (answer o) = answer (o .place)
-placeLeft (refused k) = refused k
+placeLeft (refusedWith k xs) = refusedWith k xs
 
 -- 01: "Output memory is unchanged" where a call declines
 abbrev pub statusesAfter : Answer Outcome → List ℕ → List ℕ
 statusesAfter (answer o) old = laid (statusesOf o) old
-statusesAfter (refused k) old = old
+statusesAfter (refusedWith k xs) old = old
 
 abbrev pub answersAfter : Answer Outcome → List ℕ → List ℕ
 answersAfter (answer o) old = laid (valuesOf o) old
-answersAfter (refused k) old = old
+answersAfter (refusedWith k xs) old = old
 
 -- 01: "For every case of an enum answer, a definition gives this paper's number and values."
 abbrev pub ranMeans : Ran → Answer ℕ

@@ -14,7 +14,7 @@ use Rattle.words.specs.declared.family.Family.{Family}
 use Rattle.words.specs.declared.family.Family.the-variants.{Round as round, Square as square}
 use Rattle.words.specs.Word.{Letter, Word}
 use Rattle.drawing.specs.Drawing.{Drawing, borders}
-use Rattle.drawing.specs.Session.{Answer, answer, refused, Call}
+use Rattle.drawing.specs.Session.{Answer, answer, refusedWith, refused, Call}
 use Rattle.format.specs.Bytes.{longest, wordIn}
 use Rattle.format.specs.Calls.{moveIn}
 use Rattle.format.specs.Pack.{packOf}
@@ -61,7 +61,7 @@ refusedLine k = codes "refused " ++ (decimal k ++ (lineFeed ∷ []))
 unfoldable pub shown : (List ℕ → List ℕ) → Answer (List ℕ) → List ℕ
 unfolding refusedLine
 shown text (answer s) = text s
-shown text (refused k) = refusedLine k
+shown text (refusedWith k xs) = refusedLine k
 
 unfoldable pub listed : Answer (List ℕ) → List ℕ
 unfolding listing shown
@@ -71,7 +71,7 @@ listed a = shown listing a
 unfoldable pub packed : Answer Drawing → Answer (List ℕ)
 unfolding packOf borders
 packed (answer D) = packOf D (6 * borders D) longest
-packed (refused k) = refused k
+packed (refusedWith k xs) = refusedWith k xs
 
 unfoldable pub placesOf : List ℕ → List ℕ
 unfolding listed packed readText

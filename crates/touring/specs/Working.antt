@@ -13,10 +13,8 @@
 -- Clean places w      == the same, and the last third is 0
 -- Noted places old new == new is old, with a 1 in the second third for each second place, in the last for each border met, else 0
 -- Charted places w    == the tour that stands in w meets each end once, and the second third says which places are second
--- Crosses ms places t a b == two unmarked borders a and b alternate in the tour t
 -- Assumes nothing.
 use mathlib.Core.Path.{_≡_}
-use mathlib.Core.Logic.{_≢_}
 use mathlib.Core.Bool.{Bool}
 use mathlib.Core.List.{List}
 use Prim.Native.Nat.{ℕ, _+_, _*_, _<_, _≤_}
@@ -71,20 +69,3 @@ pub record Charted (places : ℕ) (w : List ℕ) : Type 0 where
   pub small : places ≤ mostEnds
   pub once : Permutes places (tourIn w)
   pub second : (p : ℕ) → p < places → getD w (places + p) 0 ≡ pick (met (tourIn w) p) 1 0
-
-pub record Crosses (ms : List ℕ) (places : ℕ) (t : ℕ → ℕ) (a b : ℕ) : Type 0 where
-  pub two : a ≢ b
-  pub first-unmarked : getD ms a 0 ≢ 1
-  pub second-unmarked : getD ms b 0 ≢ 1
-  pub p : ℕ
-  pub q : ℕ
-  pub r : ℕ
-  pub s : ℕ
-  pub p-q : p < q
-  pub q-r : q < r
-  pub r-s : r < s
-  pub s-end : s < places
-  pub at-p : border (t p) ≡ a
-  pub at-q : border (t q) ≡ b
-  pub at-r : border (t r) ≡ a
-  pub at-s : border (t s) ≡ b

@@ -2,7 +2,7 @@
 use mathlib.Core.Path.{_≡_, refl}
 use mathlib.Core.List.{List, [], _∷_}
 use Rattle.drawing.specs.Drawing.{Kind}
-use Rattle.drawing.specs.Session.{answer, refused}
+use Rattle.drawing.specs.Session.{answer, refusedWith, refused}
 use Rattle.format.specs.Bytes.{longest}
 use Rattle.format.specs.Calls.{crossOf, firstOf, sizeOf, joiningOf}
 use Rattle.format.specs.Open.{openOf}
@@ -21,7 +21,7 @@ pub record PackRows : Type 0 where
   pub row-4 : pack (drawing (0 ∷ 0 ∷ []) (1 ∷ [])) ≡ refused 4
   pub row-5 : pack (drawing (0 ∷ 1 ∷ []) (0 ∷ [])) ≡ refused 5
   pub row-6 : pack (drawing (1 ∷ 0 ∷ []) (1 ∷ [])) ≡ refused 6
-  pub row-7 : pack (drawing (2 ∷ 3 ∷ 1 ∷ 0 ∷ []) (0 ∷ 0 ∷ [])) ≡ refused 7
+  pub row-7 : pack (drawing (2 ∷ 3 ∷ 1 ∷ 0 ∷ []) (0 ∷ 0 ∷ [])) ≡ refusedWith 7 (0 ∷ 1 ∷ [])
   -- 01: "two interlaced marked loops on one point also tour all ends"
   pub loops-6 : pack (drawing (2 ∷ 3 ∷ 1 ∷ 0 ∷ []) (1 ∷ 1 ∷ [])) ≡ refused 6
 

@@ -13,7 +13,7 @@ use Rattle.printout.proofs.print.places_of.Tie as tie
 mapped : (c : tie.After-n) → Mapped (lent (c .before .before .before .before .before .before .before .before .before .args .turning .now) (c .before .before .before .before .before .before .before .before .before .args .marks .now) 0) (c .n .given .0 .0) (c .before .before .before .before .pack .last .1 .1 .1 .1 .0)
 mapped c =
     let p = c .before .before .before .before .pack in
-    map-mapped _ _ _ (omega arith) (omega arith) (p .result) (p .ensures .answers) _ _ _ (c .n .given .1) (p .ensures .output)
+    map-mapped _ _ _ (omega arith) (omega arith) (p .result) (p .ensures .answers) _ _ _ (c .n .given .1) (p .ensures .leaves .output)
 
 slice-aggregate-pack : tie.Need-slice-aggregate-pack
 slice-aggregate-pack c = search needs
