@@ -6,7 +6,8 @@
  * DRAWING is a text as `places` reads it: the line `border first second mark`, then for each border its number, the
  * entries of its even and odd end, and its mark; decimal without leading zeros. CARD is written only if the drawing is
  * accepted, and only as a whole: it is written beside, as CARD.part, and then renamed. What is wrong goes to standard
- * error, and the exit status is then 1; it is 2 if the desk was not asked properly.
+ * error, with refusal 7 the two borders that cross first in the tour, and the exit status is then 1; it is 2 if the desk
+ * was not asked properly.
  */
 #include <errno.h>
 #include <stdio.h>
@@ -148,7 +149,8 @@ int main(int argc, char **argv)
     m = read_drawing(argv[1]);
     status = pmap_pack(turning, 2 * m, marks, m, 0, work, 6 * m, card, sizeof card, &length);
     if (PMAP_STATUS(status) == PMAP_CROSSING)
-        fprintf(stderr, "pack: %s: borders %u and %u\n", argv[1], (unsigned)PMAP_SMALLER(status), (unsigned)PMAP_LARGER(status));
+        fprintf(stderr, "pack: %s: the first that cross in the tour are borders %u and %u\n", argv[1],
+                (unsigned)PMAP_SMALLER(status), (unsigned)PMAP_LARGER(status));
     if (PMAP_STATUS(status) != PMAP_OK) {
         fprintf(stderr, "pack: %s: %s (refusal %u)\n", argv[1], what_is_wrong(status), (unsigned)PMAP_STATUS(status));
         return 1;

@@ -1,6 +1,5 @@
 -- Why a stack finds the first two borders that alternate.
 --
--- two-places       == a border has two places
 -- Open ms t p q    == q is the one place before p of an unmarked border
 -- Stacked ms places t p k st == the places open at p stand on the stack st of k, the latest on top, and whatever closed before p was on top
 -- stacked-start, stacked-skip, stacked-push, stacked-pop == from one position to the next
@@ -11,32 +10,20 @@
 -- Assumes nothing.
 use mathlib.Core.Path.{_≡_, sym, ap, _∙_}
 use mathlib.Core.Logic.{_≢_, inl, inr}
-use mathlib.Core.Bool.{true, not}
+use mathlib.Core.Bool.{Bool, true, not, _&&_}
 use mathlib.Core.List.{List}
-use Prim.Native.Nat.{ℕ, _+_, _<_, _≤_}
+use Prim.Native.Nat.{ℕ, _+_, _*_, _<_, _≤_}
 use native.Mathlib.Omega.{arith}
-use lib.Dec.{eqb}
-use lib.ListN.{getD}
-use borrow.Author.Tests.{ne-eqb, eqb-false, not-true}
-use Rattle.count.proofs.Logic.{same-or-not, lt-or-ge}
+use lib.Dec.{eqb, ltb}
+use lib.ListN.{length, getD}
+use borrow.Author.Tests.{ne-eqb, eqb-false, not-true, lt-ltb}
+use Rattle.count.proofs.Logic.{same-or-not, lt-or-ge, both, both-right}
 use Rattle.count.proofs.Below.{injective-onto}
 use Rattle.orbits.specs.Cycles.{Permutes}
 use Rattle.drawing.specs.Drawing.{border, other}
-use Rattle.drawing.proofs.Ends.{other-below, other-border, other-moves, border-two}
+use Rattle.drawing.proofs.Ends.{other-below, other-border, other-moves, border-below, two-places}
 use Rattle.drawing.specs.Checks.{Tour}
-use Rattle.drawing.proofs.Crossing.{Alternates, Lowest}
-
-pub two-places : (places : ℕ) (t : ℕ → ℕ) → Permutes places t → (f g h : ℕ) → f < places → g < places → h < places
-    → border (t f) ≡ border (t h) → border (t g) ≡ border (t h) → f ≢ h → g ≢ h → f ≡ g
-two-places places t P f g h bf bg bh p q d e =
-    elim (border-two (t f) (t h) p) [
-      | inl a ↦ absurd (d (P .injective f h bf bh a))
-      | inr a ↦
-          elim (border-two (t g) (t h) q) [
-            | inl b ↦ absurd (e (P .injective g h bg bh b))
-            | inr b ↦ P .injective f g bf bg (a ∙ sym b)
-          ]
-    ]
+use Rattle.drawing.proofs.Crossing.{AlternateAt, Lowest}
 
 pub record Open (ms : List ℕ) (t : ℕ → ℕ) (p q : ℕ) : Type 0 where
   pub before : q < p
@@ -192,17 +179,25 @@ module _ (ms : List ℕ) (places : ℕ) (t : ℕ → ℕ) where
 
   -- the borders along t, as the search reads them
   abbrev pub borderTour : Tour
-  borderTour = record { size = places; at = λ p. border (t p); unmarked = λ e. not (eqb (getD ms e 0) 1) }
+  borderTour =
+      record {
+        size = places;
+        at = λ p. border (t p);
+        unmarked = λ e. ltb e (length ms) && not (eqb (getD ms e 0) 1);
+      }
 
-  unmarked-from : (e : ℕ) → not (eqb (getD ms e 0) 1) ≡ true → getD ms e 0 ≢ 1
-  unmarked-from e u = eqb-false (getD ms e 0) 1 (not-true (eqb (getD ms e 0) 1) u)
+  unmarked-from : (e : ℕ) → borderTour .unmarked e ≡ true → getD ms e 0 ≢ 1
+  unmarked-from e u =
+      let m : Bool = eqb (getD ms e 0) 1 in
+      eqb-false (getD ms e 0) 1 (not-true m (both-right (ltb e (length ms)) (not m) u))
 
-  unmarked-to : (e : ℕ) → getD ms e 0 ≢ 1 → not (eqb (getD ms e 0) 1) ≡ true
-  unmarked-to e d = ap not (ne-eqb (getD ms e 0) 1 d)
+  unmarked-to : (e : ℕ) → e < length ms → getD ms e 0 ≢ 1 → borderTour .unmarked e ≡ true
+  unmarked-to e l d =
+      both (ltb e (length ms)) (not (eqb (getD ms e 0) 1)) (lt-ltb e (length ms) l) (ap not (ne-eqb (getD ms e 0) 1 d))
 
   module _ (P : Permutes places t) where
     -- b of a pair a, b, a, b is open where a comes again
-    alternates-open : (r q : ℕ) → q < r → Alternates borderTour r q → Open ms t r q
+    alternates-open : (r q : ℕ) → q < r → AlternateAt borderTour r q → Open ms t r q
     alternates-open r q l X =
         record {
           before = l;
@@ -216,13 +211,13 @@ module _ (ms : List ℕ) (places : ℕ) (t : ℕ → ℕ) where
         }
 
     module _ (p k : ℕ) (st : ℕ → ℕ) (S : Stacked ms places t p k st) where
-      stacked-quiet : (r q : ℕ) → q < r → Alternates borderTour r q → r < p → ⊥
+      stacked-quiet : (r q : ℕ) → q < r → AlternateAt borderTour r q → r < p → ⊥
       stacked-quiet r q l X b =
           S .nests (X .p) q r (X .p-q) l b (X .at-p)
           (λ m. unmarked-from (border (t r)) (X .a-unmarked) (ap (λ e. getD ms e 0) (sym (X .at-p)) ∙ m))
           (alternates-open r q l X)
 
-      pub stacked-none : places ≤ p → (r q : ℕ) → q < r → Alternates borderTour r q → ⊥
+      pub stacked-none : places ≤ p → (r q : ℕ) → q < r → AlternateAt borderTour r q → ⊥
       stacked-none g r q l X = stacked-quiet r q l X (omega (arith, X .r-s, X .s-end))
 
       module _ (l : p < places) (u : getD ms (border (t p)) 0 ≢ 1) where
@@ -238,11 +233,11 @@ module _ (ms : List ℕ) (places : ℕ) (t : ℕ → ℕ) where
           pub stacked-there : (i : ℕ) × (i < k) × (st i ≡ q)
           stacked-there = S .holds q stacked-open
 
-        module _ (m : ℕ) (even : places ≡ m + m) (i : ℕ) (b : i + 1 < k) (e : border (t (st i)) ≡ border (t p)) where
+        module _ (even : places ≡ 2 * length ms) (i : ℕ) (b : i + 1 < k) (e : border (t (st i)) ≡ border (t p)) where
           bi : i < k
           bi = omega arith
 
-          stacked-alternates : Alternates borderTour p (st (i + 1))
+          stacked-alternates : AlternateAt borderTour p (st (i + 1))
           stacked-alternates =
               let q : ℕ = st i in
               let y : ℕ = st (i + 1) in
@@ -254,7 +249,8 @@ module _ (ms : List ℕ) (places : ℕ) (t : ℕ → ℕ) where
               let two : border (t p) ≢ border (t y)
               = λ f. (let s : y ≡ q = O .only y (Y .before) (sym f ∙ sym e) in omega arith) in
               -- the other place of the border above
-              let other-there : other (t y) < places = rw even (other-double m (t y) (rw even at (P .below y by))) in
+              let there : t y < 2 * length ms = omega (arith, P .below y by) in
+              let other-there : other (t y) < places = rw even (other-below (length ms) (t y) there) in
               let s = injective-onto t places (P .below) (P .injective) (other (t y)) other-there in
               let same : border (t (s .0)) ≡ border (t y) = ap border (s .2) ∙ other-border (t y) in
               let away : s .0 ≢ y = λ f. other-moves (t y) (sym (s .2) ∙ ap t f) in
@@ -262,8 +258,8 @@ module _ (ms : List ℕ) (places : ℕ) (t : ℕ → ℕ) where
               elim (lt-or-ge (s .0) p) [ inl h ↦ absurd (away (Y .only (s .0) h same)) | inr g ↦ g ] in
               let not-here : s .0 ≢ p = λ f. two (ap (λ x. border (t x)) (sym f) ∙ same) in
               record {
-                a-unmarked = unmarked-to (border (t p)) u;
-                b-unmarked = unmarked-to (border (t y)) (Y .unmarked);
+                a-unmarked = unmarked-to (border (t p)) (border-below (length ms) (t p) (omega (arith, P .below p l))) u;
+                b-unmarked = unmarked-to (border (t y)) (border-below (length ms) (t y) there) (Y .unmarked);
                 two = two;
                 p = q;
                 s = s .0;
@@ -273,12 +269,9 @@ module _ (ms : List ℕ) (places : ℕ) (t : ℕ → ℕ) where
                 at-p = e;
                 at-s = same;
               }
-            where
-              other-double : (m h : ℕ) → h < m + m → other h < m + m
-              other-double m h b = omega (arith, other-below m h (omega arith))
 
           -- every b that alternates with the border at p stands on the stack, above it
-          stacked-least : (y : ℕ) → y < p → Alternates borderTour p y → st (i + 1) ≤ y
+          stacked-least : (y : ℕ) → y < p → AlternateAt borderTour p y → st (i + 1) ≤ y
           stacked-least y h X =
               let j = S .holds y (alternates-open p y h X) in
               let first : X .p ≡ st i

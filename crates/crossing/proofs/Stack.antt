@@ -202,7 +202,7 @@ module _ (ms old : List ℕ) (C : Charted (double ms) old) where
                     let y : ℕ = placeIn places w (A .j + 1) in
                     let up : a ≡ border (tourIn old y) = A .next ∙ same-border (A .j + 1) (A .not-top) in
                     let L : Lowest (charted ms old) p y
-                    = stacked-lowest ms places (tourIn old) (C .once) p k (placeIn places w) (N .stack) l unmarked-here (length ms) (omega arith)
+                    = stacked-lowest ms places (tourIn old) (C .once) p k (placeIn places w) (N .stack) l unmarked-here refl
                     (A .j) (A .not-top) (sym (same-border (A .j) bj) ∙ A .is-there ∙ is-border) in
                     f
                     ∙ ap (λ x. smallerFirst x a) is-border

@@ -7,10 +7,10 @@
 -- Above places k e w r == r is the border directly above e on it
 -- Assumes nothing.
 use mathlib.Core.Path.{_≡_}
-use mathlib.Core.Bool.{not}
+use mathlib.Core.Bool.{not, _&&_}
 use mathlib.Core.List.{List, [], _∷_}
 use Prim.Native.Nat.{ℕ, _+_, _*_, _<_, _≤_}
-use lib.Dec.{eqb}
+use lib.Dec.{eqb, ltb}
 use lib.ListN.{length, getD}
 use Rattle.drawing.specs.Checks.{Tour}
 use Rattle.crossing.specs.declared.find.Found.{Found}
@@ -22,7 +22,12 @@ foundMeans (the-case.Pair a b) = a ∷ b ∷ []
 foundMeans the-case.Nothing = []
 
 abbrev pub charted : List ℕ → List ℕ → Tour
-charted ms w = record { size = 2 * length ms; at = borderIn w; unmarked = λ e. not (eqb (getD ms e 0) 1) }
+charted ms w =
+    record {
+      size = 2 * length ms;
+      at = borderIn w;
+      unmarked = λ e. ltb e (length ms) && not (eqb (getD ms e 0) 1);
+    }
 
 abbrev pub placeIn : ℕ → List ℕ → ℕ → ℕ
 placeIn places w i = getD w (2 * places + i) 0

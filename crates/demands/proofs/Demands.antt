@@ -16,15 +16,15 @@
 -- Assumes nothing.
 use mathlib.Core.Path.{_≡_, refl, sym, ap, _∙_, subst}
 use mathlib.Core.Bool.{Bool, true, false, _&&_}
-use mathlib.Core.List.{List, []}
+use mathlib.Core.List.{List}
 use Prim.Native.Nat.{ℕ, _-_, _*_, _≤_, _<_}
 use native.Mathlib.Omega.{arith}
 use lib.ListN.{length, take, drop}
 use lib.Seq.{take-at}
 use Rattle.count.specs.Below.{pick}
-use lib.Dec.{eqb, leb}
-use borrow.Author.Tests.{le-leb, ne-eqb}
-use Rattle.count.proofs.Logic.{both, pick-yes, pick-no}
+use lib.Dec.{leb}
+use borrow.Author.Tests.{le-leb}
+use Rattle.count.proofs.Logic.{both, pick-yes}
 use Rattle.drawing.specs.Drawing.{Drawing, Kind, borders, ends}
 use Rattle.drawing.specs.Checks.{firstCrossing, FirstCrossing, FindsFirst, PassesSeven}
 use Rattle.drawing.proofs.Crossing.{first-crossing}
@@ -39,13 +39,14 @@ use Rattle.format.specs.Pack.{wordOf, sizeFor, packedBytes, Room, packRefusal, 
 use Rattle.format.specs.Fits.{Fits}
 use Rattle.format.proofs.Chain.{after-zero, after-answer}
 use Rattle.format.proofs.Passes.{opens-passes}
-use Rattle.format.proofs.Refusals.{pack-accepts, pack-crosses}
+use Rattle.format.proofs.Refusals.{carries-none, pack-accepts, pack-crosses}
 pub use Rattle.format.proofs.Passes.{open-refusals}
 pub use Rattle.format.proofs.Refusals.{pack-refusals}
 use Rattle.format.proofs.Decode.{passes-nested, opens-encode}
 use Rattle.format.proofs.Encode.{fits-lengths}
 use Rattle.format.proofs.Parts.{map-length}
 use Rattle.format.proofs.Longest.{map-length-most}
+use Rattle.tours.proofs.Theorems.{alternate-places}
 use Rattle.agreement.proofs.Passed.{passes-toured, passes-fits, packed-opens, packed-map, packed-size}
 use Rattle.agreement.proofs.Book.{session-same}
 use Rattle.roundtrip.proofs.Passes.{drawing-passes}
@@ -91,12 +92,12 @@ demand-2-pack D work out =
             let X : FirstCrossing D (firstCrossing D) = c .2 in
             (c .0, c .1, (X .a, X .b, X .crossing)),
         λ c.
-            let F : FindsFirst D = first-crossing D (c .1 .range) in
+            let F : FindsFirst D = first-crossing D in
             pack-crosses D work out (firstCrossing D) .1 (c .0, c .1, F .first (firstCrossing D) .1 (F .exists .1 (c .2), refl)),
       );
       pair = pack-crosses D work out;
-      bare = λ k xs e d.
-          pack-refusals D work out .refuses k xs .0 e .3 ∙ pick-no (eqb k 7) (firstCrossing D) [] (ne-eqb k 7 d);
+      places = λ six a b X. alternate-places D six a b (X .alternate);
+      bare = λ k xs e d. pack-refusals D work out .refuses k xs .0 e .3 ∙ carries-none D k d;
       long = λ seven. packed-length D seven;
       fits = λ seven.
           let f : Fits (sizeFor D) (wordOf D) = passes-fits D seven in

@@ -1,6 +1,6 @@
 -- Check 7: the test decides that two unmarked borders alternate in the tour, and the search finds the first that do.
 --
--- Alternates T r q     == unmarked borders stand as a, b, a, b in T, the first b at q and the second a at r
+-- AlternateAt T r q    == two unmarked borders stand as a, b, a, b in T, the second a at r and the first b at q
 -- alternate-decides    == `alternateAt` decides it
 -- crossed-by           == so the border at r is crossed
 -- crosses-by, crosses-none == so the test holds, and where no two alternate it fails
@@ -8,30 +8,28 @@
 -- search-found         == the search finds such positions where the test holds
 -- crossing-in-is, crossing-in-none == so the borders at such positions are what it gives, and nothing where the test fails
 -- Alike T U, crossing-in-same == it depends only on the borders at the places of the tour, and which are unmarked
--- end-at-below         == in a drawing whose entries are in range, the tour has ends of the drawing only
 -- crosses-decides      == `crosses` decides that some two unmarked borders alternate
--- no-crossing          == where it says no, no pair is found
+-- no-crossing, some-crossing == where it says no, nothing is found, else two numbers
 -- first-crossing       == the search finds the pair of lowest places exactly if some two alternate, and there is no other such pair
 -- Assumes nothing.
 use mathlib.Core.Path.{_≡_, refl, sym, ap, _∙_, subst}
-use mathlib.Core.Logic.{_≢_, _↔_, inl, inr}
+use mathlib.Core.Logic.{_≢_, inl, inr}
 use mathlib.Core.Bool.{Bool, true, false, not, _&&_}
 use mathlib.Core.List.{List, []}
-use Prim.Native.Nat.{ℕ, zero, suc, _+_, _*_, _≤_, _<_, max}
+use Prim.Native.Nat.{ℕ, _≤_, _<_}
 use native.Mathlib.Omega.{arith}
-use native.Mathlib.Numerals.{add-one}
-use borrow.Author.Tests.{not-true}
+use borrow.Author.Tests.{not-true, ltb-true, lt-ltb}
 use lib.Dec.{eqb, ltb}
-use Rattle.count.specs.Below.{Decides, pick, any, find}
-use Rattle.count.proofs.Logic.{true-or-false, true-not-false, bool-same, pick-yes, pick-no}
-use Rattle.count.proofs.Search.{find-has, find-at-most, find-is, any-has, any-from}
+use lib.ListN.{length}
+use Rattle.count.specs.Below.{Decides, find}
+use Rattle.count.proofs.Logic.{true-or-false, true-not-false, both, both-left, both-right, pick-yes, pick-no}
+use Rattle.count.proofs.Search.{find-has, find-at-most, any-has, any-from}
 use Rattle.count.proofs.Decides.{decides-eq, decides-lt, decides-not, decides-both, decides-any, decides-as}
-use Rattle.drawing.specs.Drawing.{Drawing, borders, ends, border, turn, isMarked, over, walk, endAt}
-use Rattle.drawing.specs.Checks.{InRange, Alternate, Crossing, Tour, tourOf, alternateAt, crossedAt, secondA, firstB, smallerFirst, crossesIn, crossingIn, crosses, firstCrossing, FirstCrossing, FindsFirst, Flat}
-use Rattle.drawing.proofs.Ends.{border-below, over-below, end-zero, end-after}
+use Rattle.drawing.specs.Drawing.{Drawing, borders, border, isMarked, endAt}
+use Rattle.drawing.specs.Checks.{Alternate, Crossing, Tour, tourOf, alternateAt, crossedAt, secondA, firstB, smallerFirst, crossesIn, crossingIn, crosses, firstCrossing, FirstCrossing, FindsFirst, Flat}
 
 -- ---- along any tour
-pub record Alternates (T : Tour) (r q : ℕ) : Type 0 where
+pub record AlternateAt (T : Tour) (r q : ℕ) : Type 0 where
   pub a-unmarked : T .unmarked (T .at r) ≡ true
   pub b-unmarked : T .unmarked (T .at q) ≡ true
   pub two : T .at r ≢ T .at q
@@ -47,7 +45,7 @@ decides-itself : (t : Bool) → Decides t (t ≡ true)
 decides-itself t = record { sound = λ e. e; complete = λ e. e }
 
 module _ (T : Tour) where
-  pub alternate-decides : (r q : ℕ) → Decides (alternateAt T r q) (Alternates T r q)
+  pub alternate-decides : (r q : ℕ) → Decides (alternateAt T r q) (AlternateAt T r q)
   unfolding alternateAt
   alternate-decides r q =
       decides-as
@@ -76,24 +74,24 @@ module _ (T : Tour) where
       (decides-any (λ s. ltb r s && eqb (T .at s) (T .at q)) (λ s. (r < s) × (T .at s ≡ T .at q)) (T .size)
       (λ s l. decides-both (decides-lt r s) (decides-eq (T .at s) (T .at q)))))
 
-  pub crossed-by : (r q : ℕ) → q < r → Alternates T r q → crossedAt T r ≡ true
+  pub crossed-by : (r q : ℕ) → q < r → AlternateAt T r q → crossedAt T r ≡ true
   unfolding crossedAt
   crossed-by r q l X = any-from (alternateAt T r) r q l (alternate-decides r q .complete X)
 
-  crossed-has : (r : ℕ) → crossedAt T r ≡ true → (q : ℕ) × (q < r) × Alternates T r q
+  crossed-has : (r : ℕ) → crossedAt T r ≡ true → (q : ℕ) × (q < r) × AlternateAt T r q
   unfolding crossedAt
   crossed-has r h = let x = any-has (alternateAt T r) r h in (x .0, x .1, alternate-decides r (x .0) .sound (x .2))
 
-  pub crosses-by : (r q : ℕ) → q < r → Alternates T r q → crossesIn T ≡ true
+  pub crosses-by : (r q : ℕ) → q < r → AlternateAt T r q → crossesIn T ≡ true
   unfolding crossesIn
   crosses-by r q l X = any-from (crossedAt T) (T .size) r (omega (arith, X .r-s, X .s-end)) (crossed-by r q l X)
 
   -- where some position is crossed, the lowest one, and the lowest q for it
   pub record Lowest (r q : ℕ) : Type 0 where
     pub before : q < r
-    pub alternates : Alternates T r q
-    pub least-r : (x y : ℕ) → y < x → Alternates T x y → r ≤ x
-    pub least-q : (y : ℕ) → y < r → Alternates T r y → q ≤ y
+    pub alternates : AlternateAt T r q
+    pub least-r : (x y : ℕ) → y < x → AlternateAt T x y → r ≤ x
+    pub least-q : (y : ℕ) → y < r → AlternateAt T r y → q ≤ y
 
   pub search-found : crossesIn T ≡ true → Lowest (secondA T) (firstB T)
   unfolding crossesIn secondA firstB
@@ -122,14 +120,14 @@ module _ (T : Tour) where
       let eq : firstB T ≡ q
       = omega (
         arith,
-        F .least-q q (omega (arith, er, L .before)) (subst (λ x. Alternates T x q) (sym er) (L .alternates)),
-        L .least-q (firstB T) (omega (arith, er, F .before)) (subst (λ x. Alternates T x (firstB T)) er (F .alternates)),
+        F .least-q q (omega (arith, er, L .before)) (subst (λ x. AlternateAt T x q) (sym er) (L .alternates)),
+        L .least-q (firstB T) (omega (arith, er, F .before)) (subst (λ x. AlternateAt T x (firstB T)) er (F .alternates)),
       ) in
       pick-yes (crossesIn T) (smallerFirst (T .at (secondA T)) (T .at (firstB T))) [] h
       ∙ ap (λ x. smallerFirst (T .at x) (T .at (firstB T))) er
       ∙ ap (λ y. smallerFirst (T .at r) (T .at y)) eq
 
-  pub crosses-none : ((r q : ℕ) → q < r → Alternates T r q → ⊥) → crossesIn T ≡ false
+  pub crosses-none : ((r q : ℕ) → q < r → AlternateAt T r q → ⊥) → crossesIn T ≡ false
   crosses-none none =
       elim (true-or-false (crossesIn T)) [
         | inl h ↦ let F = search-found h in absurd (none (secondA T) (firstB T) (F .before) (F .alternates))
@@ -155,7 +153,7 @@ alike-back T U A =
     }
 
 module _ (T U : Tour) (A : Alike T U) where
-  alternates-alike : (r q : ℕ) → q < r → Alternates T r q → Alternates U r q
+  alternates-alike : (r q : ℕ) → q < r → AlternateAt T r q → AlternateAt U r q
   alternates-alike r q l X =
       let at-r : T .at r ≡ U .at r = A .at r (omega (arith, X .r-s, X .s-end)) in
       let at-q : T .at q ≡ U .at q = A .at q (omega (arith, X .r-s, X .s-end)) in
@@ -180,7 +178,7 @@ crossing-in-same T U A =
           let r : ℕ = secondA T in
           let q : ℕ = firstB T in
           let F : Lowest T r q = search-found T h in
-          let X : Alternates T r q = F .alternates in
+          let X : AlternateAt T r q = F .alternates in
           let G : Lowest U r q =
           record {
             before = F .before;
@@ -200,27 +198,18 @@ crossing-in-same T U A =
     ]
 
 -- ---- the tour of a drawing
-module _ (D : Drawing) (I : InRange D) where
-  walk-below : (h : ℕ) → h < ends D → walk D (isMarked D) h < ends D
-  unfolding walk ends
-  walk-below h b = I .entries (over (isMarked D) h) (over-below (isMarked D) (borders D) h b)
-
-  pub end-at-below : (p : ℕ) → p < ends D → endAt D p < ends D
-  unfolding ends
-  end-at-below zero l = omega (arith, end-zero D, I .start)
-  end-at-below (suc p) l =
-      let e : endAt D (suc p) ≡ walk D (isMarked D) (endAt D p) = ap (endAt D) (sym (add-one p)) ∙ end-after D p in
-      omega (arith, e, walk-below (endAt D p) (end-at-below p (omega arith)))
-
-  crossing-to : (r q : ℕ) → q < r → Alternates (tourOf D) r q → Crossing D (border (endAt D r)) (border (endAt D q))
-  unfolding tourOf ends
+module _ (D : Drawing) where
+  crossing-to : (r q : ℕ) → q < r → AlternateAt (tourOf D) r q → Crossing D (border (endAt D r)) (border (endAt D q))
+  unfolding tourOf
   crossing-to r q l X =
+      let a : ℕ = border (endAt D r) in
+      let b : ℕ = border (endAt D q) in
       record {
-        first-border = border-below (borders D) (endAt D r) (end-at-below r (omega (arith, X .r-s, X .s-end)));
-        second-border = border-below (borders D) (endAt D q) (end-at-below q (omega (arith, X .r-s, X .s-end)));
+        first-border = ltb-true a (borders D) (both-left (ltb a (borders D)) (not (isMarked D a)) (X .a-unmarked));
+        second-border = ltb-true b (borders D) (both-left (ltb b (borders D)) (not (isMarked D b)) (X .b-unmarked));
         two = X .two;
-        first-unmarked = not-true (isMarked D (border (endAt D r))) (X .a-unmarked);
-        second-unmarked = not-true (isMarked D (border (endAt D q))) (X .b-unmarked);
+        first-unmarked = not-true (isMarked D a) (both-right (ltb a (borders D)) (not (isMarked D a)) (X .a-unmarked));
+        second-unmarked = not-true (isMarked D b) (both-right (ltb b (borders D)) (not (isMarked D b)) (X .b-unmarked));
         alternate =
             record {
               p = X .p;
@@ -238,28 +227,39 @@ module _ (D : Drawing) (I : InRange D) where
             };
       }
 
-crossing-from : (D : Drawing) (a b : ℕ) (X : Crossing D a b) → Alternates (tourOf D) (X .alternate .r) (X .alternate .q)
-unfolding tourOf
-crossing-from D a b X =
-    let Y : Alternate D a b = X .alternate in
-    record {
-      a-unmarked = ap (λ e. not (isMarked D e)) (Y .at-r) ∙ ap not (X .first-unmarked);
-      b-unmarked = ap (λ e. not (isMarked D e)) (Y .at-q) ∙ ap not (X .second-unmarked);
-      two = λ e. X .two (sym (Y .at-r) ∙ e ∙ Y .at-q);
-      p = Y .p;
-      s = Y .s;
-      p-q = Y .p-q;
-      r-s = Y .r-s;
-      s-end = Y .s-end;
-      at-p = Y .at-p ∙ sym (Y .at-r);
-      at-s = Y .at-s ∙ sym (Y .at-q);
-    }
+  unmarked-at : (e h : ℕ) → border h ≡ e → e < borders D → isMarked D e ≡ false → ltb (border h) (borders D) && not (isMarked D (border h)) ≡ true
+  unmarked-at e h s l u =
+      ap (λ x. ltb x (borders D) && not (isMarked D x)) s
+      ∙ both (ltb e (borders D)) (not (isMarked D e)) (lt-ltb e (borders D) l) (ap not u)
+
+  crossing-from : (a b : ℕ) (X : Crossing D a b) → AlternateAt (tourOf D) (X .alternate .r) (X .alternate .q)
+  unfolding tourOf
+  crossing-from a b X =
+      let Y : Alternate D a b = X .alternate in
+      record {
+        a-unmarked = unmarked-at a (endAt D (Y .r)) (Y .at-r) (X .first-border) (X .first-unmarked);
+        b-unmarked = unmarked-at b (endAt D (Y .q)) (Y .at-q) (X .second-border) (X .second-unmarked);
+        two = λ e. X .two (sym (Y .at-r) ∙ e ∙ Y .at-q);
+        p = Y .p;
+        s = Y .s;
+        p-q = Y .p-q;
+        r-s = Y .r-s;
+        s-end = Y .s-end;
+        at-p = Y .at-p ∙ sym (Y .at-r);
+        at-s = Y .at-s ∙ sym (Y .at-q);
+      }
 
 pub no-crossing : (D : Drawing) → crosses D ≡ false → firstCrossing D ≡ []
 unfolding firstCrossing crosses
 no-crossing D f = crossing-in-none (tourOf D) f
 
-module _ (D : Drawing) (I : InRange D) where
+pub some-crossing : (D : Drawing) → crosses D ≡ true → length (firstCrossing D) ≡ 2
+unfolding firstCrossing crossingIn crosses
+some-crossing D h =
+    let T : Tour = tourOf D in
+    ap length (pick-yes (crossesIn T) (smallerFirst (T .at (secondA T)) (T .at (firstB T))) [] h)
+
+module _ (D : Drawing) where
   found-crossing : crosses D ≡ true → Lowest (tourOf D) (secondA (tourOf D)) (firstB (tourOf D))
   unfolding crosses
   found-crossing h = search-found (tourOf D) h
@@ -271,7 +271,7 @@ module _ (D : Drawing) (I : InRange D) where
         sound = λ h.
             let T : Tour = tourOf D in
             let F = found-crossing h in
-            (border (endAt D (secondA T)), border (endAt D (firstB T)), crossing-to D I (secondA T) (firstB T) (F .before) (F .alternates));
+            (border (endAt D (secondA T)), border (endAt D (firstB T)), crossing-to D (secondA T) (firstB T) (F .before) (F .alternates));
         complete = λ t.
             let X : Crossing D (t .0) (t .1) = t .2 in
             crosses-by (tourOf D) (X .alternate .r) (X .alternate .q) (X .alternate .q-r) (crossing-from D (t .0) (t .1) X);
@@ -283,10 +283,10 @@ module _ (D : Drawing) (I : InRange D) where
       record {
         before = F .crossing .alternate .q-r;
         alternates = crossing-from D (F .a) (F .b) (F .crossing);
-        least-r = λ x y l X. F .lowest-a (border (endAt D x)) (border (endAt D y)) (crossing-to D I x y l X);
+        least-r = λ x y l X. F .lowest-a (border (endAt D x)) (border (endAt D y)) (crossing-to D x y l X);
         least-q = λ y l X.
             F .lowest-b (border (endAt D (F .crossing .alternate .r))) (border (endAt D y))
-            (crossing-to D I (F .crossing .alternate .r) y l X) refl;
+            (crossing-to D (F .crossing .alternate .r) y l X) refl;
       }
 
   -- what the search finds
@@ -300,11 +300,11 @@ module _ (D : Drawing) (I : InRange D) where
       record {
         a = border (endAt D r);
         b = border (endAt D q);
-        crossing = crossing-to D I r q (F .before) (F .alternates);
+        crossing = crossing-to D r q (F .before) (F .alternates);
         lowest-a = λ c d X. F .least-r (X .alternate .r) (X .alternate .q) (X .alternate .q-r) (crossing-from D c d X);
         lowest-b = λ c d X e.
             F .least-q (X .alternate .q) (omega (arith, e, X .alternate .q-r))
-            (subst (λ x. Alternates T x (X .alternate .q)) e (crossing-from D c d X));
+            (subst (λ x. AlternateAt T x (X .alternate .q)) e (crossing-from D c d X));
         carried = crossing-in-is T r q F;
       }
 
@@ -320,7 +320,7 @@ module _ (D : Drawing) (I : InRange D) where
   flat-crosses : Flat D → crosses D ≡ false
   unfolding crosses
   flat-crosses flat =
-      crosses-none (tourOf D) (λ r q l X. flat (border (endAt D r)) (border (endAt D q)) (crossing-to D I r q l X))
+      crosses-none (tourOf D) (λ r q l X. flat (border (endAt D r)) (border (endAt D q)) (crossing-to D r q l X))
 
   pub first-crossing : FindsFirst D
   first-crossing =

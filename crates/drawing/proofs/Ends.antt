@@ -5,6 +5,7 @@
 --                       below 2m with it, and another end
 -- border-below       == the border of an end below 2m is below m
 -- border-two         == an end of h's border is h or its other end
+-- two-places         == where each end stands at one place, a border has two places and no third
 -- other-end          == the other end of an end is an end
 -- count-borders      == of the 2m ends, twice as many as of the m borders have a test of the border
 -- turn-permutes      == entries in range and distinct: the turning list is a permutation
@@ -109,6 +110,19 @@ border-two g h e =
           elim (parity h) [
             | inl z ↦ inr (omega (arith, across h .even z))
             | inr o ↦ inr (omega (arith, across h .odd o))
+          ]
+    ]
+
+-- t says which end stands at each of the places
+pub two-places : (places : ℕ) (t : ℕ → ℕ) → Permutes places t → (f g h : ℕ) → f < places → g < places → h < places
+    → border (t f) ≡ border (t h) → border (t g) ≡ border (t h) → f ≢ h → g ≢ h → f ≡ g
+two-places places t P f g h bf bg bh p q d e =
+    elim (border-two (t f) (t h) p) [
+      | inl a ↦ absurd (d (P .injective f h bf bh a))
+      | inr a ↦
+          elim (border-two (t g) (t h) q) [
+            | inl b ↦ absurd (e (P .injective g h bg bh b))
+            | inr b ↦ P .injective f g bf bg (a ∙ sym b)
           ]
     ]
 

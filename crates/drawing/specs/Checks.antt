@@ -11,13 +11,16 @@
 -- Alternate D a b        == borders a and b come as a, b, a, b in the tour
 -- Crossing, crosses      == fails 7: two unmarked borders alternate in the tour
 -- Flat                   == passes 7: no two do
--- Tour                   == the borders along a tour: how many places it has, the border at each, and whether a border is unmarked
--- alternateAt T r q, crossedAt T r == the border at r is the second a of an alternating pair a, b, a, b; the first b is at q
--- secondA T, firstB T    == the lowest such r, and for it the lowest q
--- crossingIn T           == the two borders there, the smaller first; nothing where no two alternate
--- firstCrossing D        == the pair that 7 carries, by that search
--- FirstCrossing D xs     == xs is the alternating pair that has the lowest second a, and for it the lowest first b
--- FindsFirst D           == the search finds that pair, where two borders alternate and only there
+-- smallerFirst a b       == the two numbers, the smaller first
+-- FirstCrossing D xs     == xs is the pair that 7 carries: of those that alternate the one with the lowest second a, then the lowest first b
+-- Tour, tourOf D         == the borders along a tour; along that of D
+-- alternateAt T r q      == two borders alternate in T, the second a at position r and the first b at q
+-- crossedAt T r          == some two do, with the second a at r
+-- crossesIn T            == some two do
+-- secondA T, firstB T    == the lowest r for which some do, and the lowest q for that r
+-- crossingIn T           == the borders at these two, the smaller first; nothing where none alternate
+-- firstCrossing D        == the pair that 7 carries, so found in the tour of D
+-- FindsFirst D           == `crosses` and `firstCrossing` are right
 -- PassesSix, PassesSeven == passes 1 to 6, 1 to 7
 -- Assumes nothing.
 use mathlib.Core.Path.{_≡_}
@@ -128,17 +131,36 @@ pub record Crossing (D : Drawing) (a b : ℕ) : Type 0 where
 abbrev pub Flat : Drawing → Type 0
 Flat D = (a b : ℕ) → Crossing D a b → ⊥
 
--- What the test reads of a tour.
+-- 02, 2/14: "Our map drawers repair from the start of the tour onwards. Refusal 7 now carries the alternating pair a, b, a, b whose
+-- second a has the lowest place, and among those the one whose first b has the lowest place. The smaller number is still written
+-- first." The second a stands at r, the first b at q.
+abbrev pub smallerFirst : ℕ → ℕ → List ℕ
+smallerFirst a b = min a b ∷ max a b ∷ []
+
+pub record FirstCrossing (D : Drawing) (xs : List ℕ) : Type 0 where
+  pub a : ℕ
+  pub b : ℕ
+  pub crossing : Crossing D a b
+  pub lowest-a : (c d : ℕ) (X : Crossing D c d) → crossing .alternate .r ≤ X .alternate .r
+  pub lowest-b : (c d : ℕ) (X : Crossing D c d) → X .alternate .r ≡ crossing .alternate .r → crossing .alternate .q ≤ X .alternate .q
+  pub carried : xs ≡ smallerFirst a b
+
+-- The test searches a tour: its places, the border at each position, and which numbers are unmarked borders.
 pub record Tour : Type 0 where
   pub size : ℕ
   pub at : ℕ → ℕ
   pub unmarked : ℕ → Bool
 
 unfoldable pub tourOf : Drawing → Tour
-unfolding ends border endAt isMarked
-tourOf D = record { size = ends D; at = λ p. border (endAt D p); unmarked = λ e. not (isMarked D e) }
+unfolding ends borders border endAt isMarked
+tourOf D =
+    record {
+      size = ends D;
+      at = λ p. border (endAt D p);
+      unmarked = λ e. ltb e (borders D) && not (isMarked D e);
+    }
 
--- a, b, a, b with the first b at position q and the second a at position r: a stands before q as well, and b after r
+-- a, b, a, b with the second a at position r and the first b at position q: a stands before q as well, and b after r
 unfoldable pub alternateAt : Tour → ℕ → ℕ → Bool
 unfolding any
 alternateAt T r q =
@@ -148,13 +170,16 @@ alternateAt T r q =
     && any (λ p. eqb (T .at p) (T .at r)) q
     && any (λ s. ltb r s && eqb (T .at s) (T .at q)) (T .size)
 
--- whether the border at position r is the second a of such a pair
+-- position r has the second a of such a pair
 unfoldable pub crossedAt : Tour → ℕ → Bool
 unfolding any alternateAt
 crossedAt T r = any (alternateAt T r) r
 
--- 02, 2/14: "Our map drawers repair from the start of the tour onwards. Refusal 7 now carries the alternating pair a, b, a, b whose
--- second a has the lowest place, and among those the one whose first b has the lowest place."
+unfoldable pub crossesIn : Tour → Bool
+unfolding any crossedAt
+crossesIn T = any (crossedAt T) (T .size)
+
+-- from the start of the tour onwards: the first position that has a second a, and the first position of a b for it
 unfoldable pub secondA : Tour → ℕ
 unfolding find crossedAt
 secondA T = find (crossedAt T) (T .size)
@@ -162,14 +187,6 @@ secondA T = find (crossedAt T) (T .size)
 unfoldable pub firstB : Tour → ℕ
 unfolding find alternateAt secondA
 firstB T = find (alternateAt T (secondA T)) (secondA T)
-
--- "The smaller number is still written first."
-abbrev pub smallerFirst : ℕ → ℕ → List ℕ
-smallerFirst a b = min a b ∷ max a b ∷ []
-
-unfoldable pub crossesIn : Tour → Bool
-unfolding any crossedAt
-crossesIn T = any (crossedAt T) (T .size)
 
 unfoldable pub crossingIn : Tour → List ℕ
 unfolding crossesIn secondA firstB
@@ -183,16 +200,7 @@ unfoldable pub firstCrossing : Drawing → List ℕ
 unfolding crossingIn tourOf
 firstCrossing D = crossingIn (tourOf D)
 
--- 2/14 again, of any list: it is the pair that those two sentences name
-pub record FirstCrossing (D : Drawing) (xs : List ℕ) : Type 0 where
-  pub a : ℕ
-  pub b : ℕ
-  pub crossing : Crossing D a b
-  pub lowest-a : (c d : ℕ) (X : Crossing D c d) → crossing .alternate .r ≤ X .alternate .r
-  pub lowest-b : (c d : ℕ) (X : Crossing D c d) → X .alternate .r ≡ crossing .alternate .r → crossing .alternate .q ≤ X .alternate .q
-  pub carried : xs ≡ smallerFirst a b
-
--- what the search finds: "exactly when two unmarked borders alternate" (01, demand 2), the pair of 2/14 and no other
+-- what the test and the search find: two borders exactly where some alternate, and then 2/14's pair and no other
 pub record FindsFirst (D : Drawing) : Type 0 where
   pub exists : (crosses D ≡ true) ↔ ((a : ℕ) × (b : ℕ) × Crossing D a b)
   pub first : (xs : List ℕ) → FirstCrossing D xs ↔ ((crosses D ≡ true) × (xs ≡ firstCrossing D))

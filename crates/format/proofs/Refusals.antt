@@ -1,21 +1,23 @@
 -- Checks 1 to 7: packing gives the number of the first that fails.
 --
--- pack-refusals   == packing gives the number of the first check that fails, or the drawing's bytes
+-- pack-refusals   == packing gives the refusal of the first check that fails, with what it carries, or the drawing's bytes
 -- pack-accepts    == no refusal exactly if there is room and the drawing passes 1 to 7
 -- pack-crosses    == refusal 7 with xs exactly if there is room, the drawing passes 1 to 6, and xs is its first crossing
--- pack-number     == the number of packing's answer; pack-carried == what its refusal carries
+-- carries-none    == no refusal but 7 carries anything
 -- Assumes nothing.
 use mathlib.Core.Path.{_≡_, refl, sym, _∙_}
-use mathlib.Core.Logic.{_⊎_, inl, inr, _↔_}
+use mathlib.Core.Logic.{_≢_, inl, inr, _↔_}
 use mathlib.Core.Bool.{Bool, true, false, not}
 use mathlib.Core.List.{List, [], _∷_}
 use Prim.Native.Nat.{ℕ, _*_, _≤_}
 use native.Mathlib.Omega.{arith}
+use lib.Dec.{eqb}
+use borrow.Author.Tests.{ne-eqb}
 use Rattle.count.specs.Below.{Decides}
-use Rattle.count.proofs.Logic.{true-or-false}
+use Rattle.count.proofs.Logic.{true-or-false, pick-no}
 use Rattle.count.proofs.Decides.{decides-le, decides-both, decides-not, decides-refutes, decides-as}
 use Rattle.drawing.specs.Drawing.{Drawing, borders}
-use Rattle.drawing.specs.Checks.{LengthsFit, lengthsFit, InRange, inRange, Distinct, distinct, joined, fewMarks, Flat, crosses, FirstCrossing}
+use Rattle.drawing.specs.Checks.{LengthsFit, lengthsFit, InRange, inRange, Distinct, distinct, joined, fewMarks, Flat, crosses, firstCrossing, FirstCrossing}
 use Rattle.drawing.specs.Checks.{PassesSix, PassesSeven}
 use Rattle.drawing.specs.Session.{answer, refusedWith}
 use Rattle.drawing.proofs.Checks.{lengths-decides, range-decides, distinct-decides, few-decides}
@@ -32,8 +34,11 @@ room-decides D work out =
     decides-as (λ t. record { working = t .0; output = t .1 }) (λ r. (r .working, r .output))
     (decides-both (decides-le (6 * borders D) work) (decides-le longest out))
 
-flat-decides : (D : Drawing) → InRange D → Decides (not (crosses D)) (Flat D)
-flat-decides D I = decides-as (λ n a b c. n (a, b, c)) (λ f c. f (c .0) (c .1) (c .2)) (decides-not (crosses-decides D I))
+flat-decides : (D : Drawing) → Decides (not (crosses D)) (Flat D)
+flat-decides D = decides-as (λ n a b c. n (a, b, c)) (λ f c. f (c .0) (c .1) (c .2)) (decides-not (crosses-decides D))
+
+pub carries-none : (D : Drawing) (k : ℕ) → k ≢ 7 → packCarries D k ≡ []
+carries-none D k d = pick-no (eqb k 7) (firstCrossing D) [] (ne-eqb k 7 d)
 
 module _ (D : Drawing) (work out : ℕ) where
   tests : List Bool
@@ -44,7 +49,7 @@ module _ (D : Drawing) (work out : ℕ) where
   unfolding packRefusal tests chain
   refusal-chain = refl
 
-  -- that marked borders join all points is tested where entries are in range and distinct, what alternates where they are in range
+  -- that marked borders join all points is tested where entries are in range and distinct
   pack-chain : Chain (PackCheck D work out) 1 tests
   unfolding tests
   pack-chain = (
@@ -55,7 +60,7 @@ module _ (D : Drawing) (work out : ℕ) where
         range-decides D,
         λ r. (
           distinct-decides D,
-          λ d. (joined-decides D (turn-permutes D r d), λ j. (few-decides D, λ f. (flat-decides D r, λ z. tt))),
+          λ d. (joined-decides D (turn-permutes D r d), λ j. (few-decides D, λ f. (flat-decides D, λ z. tt))),
         ),
       ),
     ),
@@ -107,13 +112,12 @@ module _ (D : Drawing) (work out : ℕ) where
         λ e.
             let F : FirstFails P 1 7 = seven .0 e .2 in
             let six = six-hold (F .before) in
-            let I : InRange D = six .1 .range in
             let t : crosses D ≡ true =
             elim (true-or-false (crosses D)) [
               | inl t ↦ t
-              | inr f ↦ absurd (F .fails (λ a b c. decides-refutes (crosses-decides D I) f (a, b, c)))
+              | inr f ↦ absurd (F .fails (λ a b c. decides-refutes (crosses-decides D) f (a, b, c)))
             ] in
-            (six .0, six .1, first-crossing D I .first xs .1 (t, seven .0 e .3)),
+            (six .0, six .1, first-crossing D .first xs .1 (t, seven .0 e .3)),
         λ c.
             let X : FirstCrossing D xs = c .2 in
             seven .1 (
@@ -123,6 +127,6 @@ module _ (D : Drawing) (work out : ℕ) where
                 before = hold-six 7 (c .0) (c .1) (hold-none P 7 7 (omega arith));
                 fails = λ flat. flat (X .a) (X .b) (X .crossing);
               },
-              first-crossing D (c .1 .range) .first xs .0 X .1,
+              first-crossing D .first xs .0 X .1,
             ),
       )

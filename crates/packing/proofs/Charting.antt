@@ -22,12 +22,11 @@ use Rattle.orbits.specs.Cycles.{Permutes}
 use Rattle.orbits.proofs.Conjugate.{count-renamed}
 use Rattle.words.specs.declared.family.Family.the-variants.{Round as round, Square as square}
 use Rattle.words.specs.Word.{sameFamily, Letter}
-use Rattle.drawing.specs.Drawing.{Drawing, Kind, borders, ends, border, isMarked, cells, endAt, positionOf, isSecond}
+use Rattle.drawing.specs.Drawing.{Drawing, Kind, borders, ends, border, isMarked, cells, endAt, isSecond}
 use Rattle.drawing.specs.Checks.{PassesSix, tourOf, markCount}
 use Rattle.drawing.proofs.Crossing.{Alike}
 use Rattle.drawing.proofs.Ends.{count-borders}
-use Rattle.tours.specs.Tour.{MeetsAll}
-use Rattle.tours.proofs.Theorems.{passes-meets, marks-at-least}
+use Rattle.tours.proofs.Theorems.{passes-meets, tour-once, marks-at-least}
 use Rattle.format.specs.Bytes.{mapBytes}
 use Rattle.format.specs.Pack.{wordOf, packedBytes}
 use Rattle.format.proofs.Encode.{map-bytes-same}
@@ -37,13 +36,6 @@ use Rattle.touring.specs.Working.{Outside, Zeroed, Tours, Clean, Noted, Charted
 use Rattle.crossing.specs.Finding.{charted}
 use Rattle.writing.specs.Writing.{wordAt, chartBytes, Legible, Sized}
 use Rattle.writing.proofs.Filling.{round-is}
-
-meets-once : (D : Drawing) → MeetsAll D → Permutes (ends D) (endAt D)
-meets-once D M =
-    record {
-      below = M .end-below;
-      injective = λ p q l k e. sym (M .position-end p l) ∙ ap (positionOf D) e ∙ M .position-end q k;
-    }
 
 met-one-way : (t u : ℕ → ℕ) (p : ℕ) → ((q : ℕ) → q ≤ p → t q ≡ u q) → met t p ≡ true → met u p ≡ true
 unfolding met
@@ -130,7 +122,7 @@ module _ (ts ms : List ℕ) (s : ℕ) (six : PassesSix (lent ts ms s)) where
     once : Permutes (2 * length ms) (tourIn w)
     unfolding ends borders
     once =
-        let M : Permutes (ends D) (endAt D) = meets-once D (passes-meets D six) in
+        let M : Permutes (ends D) (endAt D) = tour-once D (passes-meets D six) in
         record {
           below = λ p l. rw (C .at p l) (M .below p l);
           injective = λ p q l k e. M .injective p q l k (sym (C .at p l) ∙ e ∙ C .at q k);
@@ -179,7 +171,7 @@ module _ (ts ms : List ℕ) (s : ℕ) (six : PassesSix (lent ts ms s)) where
         let rounds : count (λ p. sameFamily round (wordAt ms w .letter p .family)) (2 * length ms) ≡ 2 * markCount D
         = count-same (λ p. sameFamily round (wordAt ms w .letter p .family)) (λ p. isMarked D (border (endAt D p))) (2 * length ms)
         (λ p l. round-is (eqb (getD ms (borderIn w p) 0) 1) ∙ marked-same p l)
-        ∙ count-renamed (meets-once D (passes-meets D six)) (λ h. isMarked D (border h))
+        ∙ count-renamed (tour-once D (passes-meets D six)) (λ h. isMarked D (border h))
         ∙ count-borders (isMarked D) (borders D) in
         record { least = omega arith; most = omega arith; rounds = omega arith }
 

@@ -1,6 +1,5 @@
 -- Checks 4 to 7: which refusal comes first, and what packing answers with it.
 --
--- carries-none     == no number but 7 carries anything
 -- later-4 .. later-none == the first of 4 to 7 that applies
 -- declines         == an answer by the number of a check
 -- passes, fails    == what a test says that was computed and negated
@@ -8,30 +7,29 @@
 -- checked-4, checked-5, checked-6, checked-six == what the checks 4 to 6 found
 -- finish-pair, finish-none == what check 7 found
 -- Assumes nothing.
-use mathlib.Core.Path.{_≡_, refl, sym, ap, _∙_}
-use mathlib.Core.Logic.{_≢_, inl, inr}
+use mathlib.Core.Path.{_≡_, sym, ap, _∙_}
+use mathlib.Core.Logic.{inl, inr}
 use mathlib.Core.Bool.{Bool, true, false, not}
 use mathlib.Core.List.{List, [], _∷_}
-use Prim.Native.Nat.{ℕ, suc, _*_, _<_, _≤_}
+use Prim.Native.Nat.{ℕ, suc, _<_, _≤_}
 use native.Mathlib.Omega.{arith}
-use borrow.Author.Tests.{not-true, not-false, le-ltb, ne-eqb}
-use lib.Dec.{eqb}
+use borrow.Author.Tests.{not-true, not-false, le-ltb}
 use lib.ListN.{length, getD}
 use Rattle.count.specs.Below.{Decides}
-use Rattle.count.proofs.Logic.{true-or-false, pick-no}
+use Rattle.count.proofs.Logic.{true-or-false}
 use Rattle.drawing.specs.Drawing.{Drawing, Kind, cells}
 use Rattle.drawing.specs.Checks.{LengthsFit, InRange, PassesSix, distinct, joined, fewMarks, crosses, firstCrossing, tourOf, crossingIn, markCount}
 use Rattle.drawing.specs.Session.{answer, refusedWith, refused}
 use Rattle.drawing.proofs.Checks.{distinct-decides, few-decides}
 use Rattle.drawing.proofs.Labels.{joined-decides}
-use Rattle.drawing.proofs.Crossing.{crossing-in-same, no-crossing, first-crossing}
+use Rattle.drawing.proofs.Crossing.{crossing-in-same, no-crossing, some-crossing}
 use Rattle.drawing.proofs.Ends.{turn-permutes}
 use Rattle.format.specs.Open.{afterRefusalWith}
 use Rattle.format.specs.Pack.{packedBytes, packCarries}
+use Rattle.format.proofs.Refusals.{carries-none}
 use Rattle.drawing.specs.Laid.{lent, laid}
 use Rattle.checking.specs.Lent.{pointsIn, Ranged, Differ, Turns, Kept}
 use Rattle.checking.proofs.Laws.{ranged-from, turns-from, distinct-is, points-are}
-use Rattle.packing.specs.declared.answers.Packed.{Packed}
 use Rattle.packing.specs.declared.answers.Packed.the-variants as the-case
 use Rattle.crossing.specs.declared.find.Found.{Found}
 use Rattle.crossing.specs.declared.find.Found.the-variants as the-found
@@ -39,9 +37,6 @@ use Rattle.packing.specs.Answers.{packedMeans, lengthOf, written, laterR
 use Rattle.crossing.specs.Finding.{foundMeans, charted}
 use Rattle.writing.specs.Writing.{chartBytes}
 use Rattle.packing.proofs.Charting.{Chart, chart-bytes, chart-alike}
-
-pub carries-none : (D : Drawing) (k : ℕ) → k ≢ 7 → packCarries D k ≡ []
-carries-none D k d = pick-no (eqb k 7) (firstCrossing D) [] (ne-eqb k 7 d)
 
 module _ (D : Drawing) where
   later-4 : distinct D ≡ false → laterRefusal D ≡ 4
@@ -164,7 +159,7 @@ module _ (ts ms : List ℕ) (s : ℕ) (six : PassesSix (lent ts ms s)) where
         let t : crosses G ≡ true =
         elim (true-or-false (crosses G)) [
           | inl t ↦ t
-          | inr z ↦ (let two : _≡_ {A = ℕ} 2 0 = ap length (is ∙ no-crossing G z) in absurd (omega arith))
+          | inr z ↦ (let none : _≡_ {A = ℕ} 2 0 = ap length (is ∙ no-crossing G z) in absurd (omega arith))
         ] in
         let e : laterOf G ≡ refusedWith 7 (a ∷ b ∷ []) = later-is G 7 (later-7 G four five few t) ∙ ap (refusedWith 7) (sym is) in
         record { answers = sym (ap lengthOf e); output = sym (ap (λ x. written x old) e) }
@@ -177,8 +172,7 @@ module _ (ts ms : List ℕ) (s : ℕ) (six : PassesSix (lent ts ms s)) where
         let is : [] ≡ firstCrossing G = sym (ap foundMeans f) ∙ found-is x Y in
         let t : crosses G ≡ false =
         elim (true-or-false (crosses G)) [
-          | inl c ↦ (let X = first-crossing G (six .range) .first [] .1 (c, is) in
-              let two : _≡_ {A = ℕ} 0 2 = ap length (X .carried) in absurd (omega arith))
+          | inl c ↦ (let two : _≡_ {A = ℕ} 0 2 = ap length is ∙ some-crossing G c in absurd (omega arith))
           | inr z ↦ z
         ] in
         let a = later-is G 0 (later-none G four five few t) in

@@ -30,11 +30,12 @@ use Rattle.drawing.proofs.Checks.{lengths-decides, range-decides}
 use Rattle.format.specs.Bytes.{longest}
 use Rattle.format.specs.Open.{unless, afterRefusalWith}
 use Rattle.format.specs.Pack.{packedBytes, packRefusal, packCarries, packOf}
+use Rattle.format.proofs.Refusals.{carries-none}
 use Rattle.drawing.specs.Laid.{lent}
 use Rattle.checking.specs.Lent.{Blank, Kept}
 use Rattle.packing.specs.declared.answers.Packed.the-variants as the-case
 use Rattle.packing.specs.Answers.{packedMeans, lengthOf, written, workLeft, laterRefusal, laterOf, Packs, PacksLater}
-use Rattle.packing.proofs.Later.{passes, fails, carries-none}
+use Rattle.packing.proofs.Later.{passes, fails}
 
 module _ (D : Drawing) (w o : ℕ) where
   first-1 : lengthsFit D ≡ false → packRefusal D w o ≡ 1

@@ -3,27 +3,61 @@
 -- marks-at-least    == marked borders that join all points number at least n - 1
 -- tree-tour         == if they number no more, the tour meets all ends, each once
 -- passes-meets      == the same of every drawing that passes 1 to 6, one without borders too
+-- tour-once         == so the tour is a permutation of the ends
+-- alternate-places  == where a, b, a, b stand in it, the second a is at its border's second place and the first b at its first
 -- tree-nests        == and no two marked borders alternate in it
 -- crossing-not-flat == if two unmarked borders alternate in it, the drawing has few areas: areas + points ≤ borders
 -- alternate-few     == the law behind the last two, over any set of borders
 -- Assumes nothing.
-use mathlib.Core.Path.{_≡_, sym, ap}
-use mathlib.Core.Bool.{Bool, true, not}
+use mathlib.Core.Path.{_≡_, sym, ap, _∙_}
+use mathlib.Core.Logic.{inl, inr}
+use mathlib.Core.Bool.{Bool, true, false, not}
 use Prim.Native.Nat.{ℕ, _+_, _≤_, _<_}
 use native.Mathlib.Omega.{arith}
-use Rattle.count.specs.Below.{count}
-use Rattle.count.proofs.Below.{count-not}
+use lib.Dec.{eqb}
+use borrow.Author.Tests.{eqb-true, eq-eqb}
+use Rattle.count.specs.Below.{count, any}
+use Rattle.count.proofs.Logic.{true-or-false}
+use Rattle.count.proofs.Below.{count-not, any-has, any-from}
 use Rattle.orbits.specs.Cycles.{Permutes, cycles}
 use Rattle.orbits.proofs.Classes.{cycles-same}
-use Rattle.drawing.specs.Drawing.{Drawing, Kind, borders, ends, turn, isMarked, over, walk, around, cells, endAt}
+use Rattle.drawing.specs.Drawing.{Drawing, Kind, borders, ends, border, turn, isMarked, over, walk, around, cells, endAt, positionOf, isSecond}
 use Rattle.drawing.specs.Checks.{PassesSix, Alternate, Crossing, markCount}
-use Rattle.drawing.proofs.Ends.{turn-permutes, over-over}
+use Rattle.drawing.proofs.Ends.{turn-permutes, over-over, two-places}
+use Rattle.tours.specs.Tour.{MeetsAll}
 use Rattle.tours.proofs.Exchange.{over-permutes, over-rest}
 use Rattle.drawing.proofs.Cells.{cells-are, points-are}
 use Rattle.tours.proofs.Tour.{tour-permutes, start-below, tree-one-cycle}
 pub use Rattle.tours.proofs.Merging.{marks-at-least}
 pub use Rattle.tours.proofs.Tour.{tree-tour, passes-meets}
 pub use Rattle.tours.proofs.Alternate.{Alternates, alternate-few}
+
+pub tour-once : (D : Drawing) → MeetsAll D → Permutes (ends D) (endAt D)
+tour-once D M =
+    record {
+      below = M .end-below;
+      injective = λ p q l k e. sym (M .position-end p l) ∙ ap (positionOf D) e ∙ M .position-end q k;
+    }
+
+pub alternate-places : (D : Drawing) → PassesSix D → (a b : ℕ) (A : Alternate D a b) → (isSecond D (A .r) ≡ true) × (isSecond D (A .q) ≡ false)
+unfolding isSecond
+alternate-places D six a b A =
+    let at : ℕ → ℕ = λ p. border (endAt D p) in
+    let before : ℕ → ℕ → Bool = λ p x. eqb (at x) (at p) in (
+      any-from (before (A .r)) (A .r) (A .p) (omega (arith, A .p-q, A .q-r)) (eq-eqb (at (A .p)) (at (A .r)) (A .at-p ∙ sym (A .at-r))),
+      elim (true-or-false (any (before (A .q)) (A .q))) [
+        | inl t ↦
+            let x = any-has (before (A .q)) (A .q) t in
+            let e : at (x .0) ≡ at (A .q) = eqb-true (at (x .0)) (at (A .q)) (x .2) in
+            let same : at (A .q) ≡ at (A .s) = A .at-q ∙ sym (A .at-s) in
+            let once = tour-once D (passes-meets D six) in
+            let z : x .0 ≡ A .q =
+            two-places (ends D) (endAt D) once (x .0) (A .q) (A .s) (omega (arith, x .1, A .q-r, A .r-s, A .s-end)) (omega (arith, A .q-r, A .r-s, A .s-end))
+            (A .s-end) (e ∙ same) same (omega (arith, x .1, A .q-r, A .r-s)) (omega (arith, A .q-r, A .r-s)) in
+            absurd (omega (arith, x .1))
+        | inr f ↦ f
+      ],
+    )
 
 -- what alternates in a drawing's tour alternates on the walk of its step
 alternates : (D : Drawing) (a b : ℕ) → Alternate D a b → Alternates (borders D) (walk D (isMarked D)) (D .start) a b
