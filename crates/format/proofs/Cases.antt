@@ -1,13 +1,16 @@
--- Two maps by computation: in B and B* a 0 opens and a 1 closes, and a loop joins its point with itself. Assumes nothing.
+-- Two maps and a drawing by computation: in B and B* a 0 opens and a 1 closes, a loop joins its point with itself, and 7 carries
+-- its pair. Assumes nothing.
 use mathlib.Core.Path.{_≡_, refl}
 use mathlib.Core.Bool.{true, false}
 use mathlib.Core.List.{List, [], _∷_}
 use Prim.Native.Nat.{ℕ}
 use Rattle.words.specs.declared.family.Family.the-variants.{Round as round, Square as square}
 use Rattle.words.specs.Word.{Letter}
-use Rattle.drawing.specs.Session.{answer}
-use Rattle.format.specs.Bytes.{wordIn}
+use Rattle.drawing.specs.Drawing.{Drawing}
+use Rattle.drawing.specs.Session.{answer, refusedWith}
+use Rattle.format.specs.Bytes.{longest, wordIn}
 use Rattle.format.specs.Calls.{joiningOf}
+use Rattle.format.specs.Pack.{packOf}
 
 -- document 01's cases (b) and (c)
 abbrev stubMap : List ℕ
@@ -16,6 +19,10 @@ stubMap = 0x01 ∷ 0x00 ∷ 0x02 ∷ 0x00 ∷ 0x03 ∷ 0x02 ∷ []
 abbrev enclaveMap : List ℕ
 enclaveMap = 0x01 ∷ 0x00 ∷ 0x01 ∷ 0x00 ∷ 0x00 ∷ 0x02 ∷ []
 
+-- document 01's example of 7
+abbrev interlaced : Drawing
+interlaced = record { turning = 2 ∷ 3 ∷ 1 ∷ 0 ∷ []; marks = 0 ∷ 0 ∷ []; start = 0 }
+
 pub record Cases : Type 0 where
   pub stub-opens : wordIn stubMap .letter 0 ≡ record { family = round; closing = false }
   pub stub-closes : wordIn stubMap .letter 1 ≡ record { family = round; closing = true }
@@ -23,7 +30,16 @@ pub record Cases : Type 0 where
   -- the enclave's one border is a loop
   pub enclave-joins : joiningOf enclaveMap 1 1 ≡ answer 1
   pub enclave-closes : wordIn enclaveMap .letter 1 ≡ record { family = square; closing = true }
+  pub seven-carries : packOf interlaced 12 longest ≡ refusedWith 7 (0 ∷ 1 ∷ [])
 
 pub cases : Cases
-unfolding wordIn joiningOf
-cases = record { stub-opens = refl; stub-closes = refl; enclave-opens = refl; enclave-joins = refl; enclave-closes = refl }
+unfolding wordIn joiningOf packOf
+cases =
+    record {
+      stub-opens = refl;
+      stub-closes = refl;
+      enclave-opens = refl;
+      enclave-joins = refl;
+      enclave-closes = refl;
+      seven-carries = refl;
+    }
