@@ -3,14 +3,13 @@
 -- Open ms t p q    == q is the one place before p of an unmarked border
 -- Stacked ms places t p k st == the places open at p stand on the stack st of k, the latest on top, and whatever closed before p was on top
 -- stacked-start, stacked-skip, stacked-push, stacked-pop == from one position to the next
--- borderTour ms places t == the borders along t, as the search for the first crossing reads them
 -- stacked-none     == at the end no two unmarked borders alternate
 -- stacked-there    == the first place of a border that closes is on the stack
 -- stacked-lowest   == the first border that closes and is not on top, and the one above it, are the first pair that alternates
 -- Assumes nothing.
 use mathlib.Core.Path.{_≡_, sym, ap, _∙_}
 use mathlib.Core.Logic.{_≢_, inl, inr}
-use mathlib.Core.Bool.{Bool, true, not, _&&_}
+use mathlib.Core.Bool.{Bool, true, not}
 use mathlib.Core.List.{List}
 use Prim.Native.Nat.{ℕ, _+_, _*_, _<_, _≤_}
 use native.Mathlib.Omega.{arith}
@@ -22,8 +21,8 @@ use Rattle.count.proofs.Below.{injective-onto}
 use Rattle.orbits.specs.Cycles.{Permutes}
 use Rattle.drawing.specs.Drawing.{border, other}
 use Rattle.drawing.proofs.Ends.{other-below, other-border, other-moves, border-below, two-places}
-use Rattle.drawing.specs.Checks.{Tour}
 use Rattle.drawing.proofs.Crossing.{AlternateAt, Lowest}
+use Rattle.crossing.specs.Finding.{borderTour}
 
 pub record Open (ms : List ℕ) (t : ℕ → ℕ) (p q : ℕ) : Type 0 where
   pub before : q < p
@@ -177,27 +176,18 @@ module _ (ms : List ℕ) (places : ℕ) (t : ℕ → ℕ) where
                   ];
             }
 
-  -- the borders along t, as the search reads them
-  abbrev pub borderTour : Tour
-  borderTour =
-      record {
-        size = places;
-        at = λ p. border (t p);
-        unmarked = λ e. ltb e (length ms) && not (eqb (getD ms e 0) 1);
-      }
-
-  unmarked-from : (e : ℕ) → borderTour .unmarked e ≡ true → getD ms e 0 ≢ 1
+  unmarked-from : (e : ℕ) → borderTour ms places t .unmarked e ≡ true → getD ms e 0 ≢ 1
   unmarked-from e u =
       let m : Bool = eqb (getD ms e 0) 1 in
       eqb-false (getD ms e 0) 1 (not-true m (both-right (ltb e (length ms)) (not m) u))
 
-  unmarked-to : (e : ℕ) → e < length ms → getD ms e 0 ≢ 1 → borderTour .unmarked e ≡ true
+  unmarked-to : (e : ℕ) → e < length ms → getD ms e 0 ≢ 1 → borderTour ms places t .unmarked e ≡ true
   unmarked-to e l d =
       both (ltb e (length ms)) (not (eqb (getD ms e 0) 1)) (lt-ltb e (length ms) l) (ap not (ne-eqb (getD ms e 0) 1 d))
 
   module _ (P : Permutes places t) where
     -- b of a pair a, b, a, b is open where a comes again
-    alternates-open : (r q : ℕ) → q < r → AlternateAt borderTour r q → Open ms t r q
+    alternates-open : (r q : ℕ) → q < r → AlternateAt (borderTour ms places t) r q → Open ms t r q
     alternates-open r q l X =
         record {
           before = l;
@@ -211,13 +201,13 @@ module _ (ms : List ℕ) (places : ℕ) (t : ℕ → ℕ) where
         }
 
     module _ (p k : ℕ) (st : ℕ → ℕ) (S : Stacked ms places t p k st) where
-      stacked-quiet : (r q : ℕ) → q < r → AlternateAt borderTour r q → r < p → ⊥
+      stacked-quiet : (r q : ℕ) → q < r → AlternateAt (borderTour ms places t) r q → r < p → ⊥
       stacked-quiet r q l X b =
           S .nests (X .p) q r (X .p-q) l b (X .at-p)
           (λ m. unmarked-from (border (t r)) (X .a-unmarked) (ap (λ e. getD ms e 0) (sym (X .at-p)) ∙ m))
           (alternates-open r q l X)
 
-      pub stacked-none : places ≤ p → (r q : ℕ) → q < r → AlternateAt borderTour r q → ⊥
+      pub stacked-none : places ≤ p → (r q : ℕ) → q < r → AlternateAt (borderTour ms places t) r q → ⊥
       stacked-none g r q l X = stacked-quiet r q l X (omega (arith, X .r-s, X .s-end))
 
       module _ (l : p < places) (u : getD ms (border (t p)) 0 ≢ 1) where
@@ -237,7 +227,7 @@ module _ (ms : List ℕ) (places : ℕ) (t : ℕ → ℕ) where
           bi : i < k
           bi = omega arith
 
-          stacked-alternates : AlternateAt borderTour p (st (i + 1))
+          stacked-alternates : AlternateAt (borderTour ms places t) p (st (i + 1))
           stacked-alternates =
               let q : ℕ = st i in
               let y : ℕ = st (i + 1) in
@@ -271,7 +261,7 @@ module _ (ms : List ℕ) (places : ℕ) (t : ℕ → ℕ) where
               }
 
           -- every b that alternates with the border at p stands on the stack, above it
-          stacked-least : (y : ℕ) → y < p → AlternateAt borderTour p y → st (i + 1) ≤ y
+          stacked-least : (y : ℕ) → y < p → AlternateAt (borderTour ms places t) p y → st (i + 1) ≤ y
           stacked-least y h X =
               let j = S .holds y (alternates-open p y h X) in
               let first : X .p ≡ st i
@@ -289,7 +279,7 @@ module _ (ms : List ℕ) (places : ℕ) (t : ℕ → ℕ) where
                     ]
               ]
 
-          pub stacked-lowest : Lowest borderTour p (st (i + 1))
+          pub stacked-lowest : Lowest (borderTour ms places t) p (st (i + 1))
           stacked-lowest =
               record {
                 before = S .opened (i + 1) b .before;

@@ -1,7 +1,8 @@
 -- What looking for a crossing finds, and what stands on its stack.
 --
 -- foundMeans f         == the two borders that the case f has, or none
--- charted ms w         == the tour that stands in the working list w, of a drawing with the marks ms
+-- borderTour ms places t == the borders along the ends t, as the search for the first crossing reads them; ms are the marks
+-- charted ms w         == those along the tour that stands in the working list w
 -- placeIn places w i   == the place at i on the stack that is the last third of w
 -- Stands places k e w  == the stack holds k places, and border e is on it, not on top
 -- Above places k e w r == r is the border directly above e on it
@@ -12,22 +13,26 @@ use mathlib.Core.List.{List, [], _∷_}
 use Prim.Native.Nat.{ℕ, _+_, _*_, _<_, _≤_}
 use lib.Dec.{eqb, ltb}
 use lib.ListN.{length, getD}
+use Rattle.drawing.specs.Drawing.{border}
 use Rattle.drawing.specs.Checks.{Tour}
 use Rattle.crossing.specs.declared.find.Found.{Found}
 use Rattle.crossing.specs.declared.find.Found.the-variants as the-case
-use Rattle.touring.specs.Working.{borderIn}
+use Rattle.touring.specs.Working.{tourIn, borderIn}
 
 abbrev pub foundMeans : Found → List ℕ
 foundMeans (the-case.Pair a b) = a ∷ b ∷ []
 foundMeans the-case.Nothing = []
 
-abbrev pub charted : List ℕ → List ℕ → Tour
-charted ms w =
+abbrev pub borderTour : List ℕ → ℕ → (ℕ → ℕ) → Tour
+borderTour ms places t =
     record {
-      size = 2 * length ms;
-      at = borderIn w;
+      size = places;
+      at = λ p. border (t p);
       unmarked = λ e. ltb e (length ms) && not (eqb (getD ms e 0) 1);
     }
+
+abbrev pub charted : List ℕ → List ℕ → Tour
+charted ms w = borderTour ms (2 * length ms) (tourIn w)
 
 abbrev pub placeIn : ℕ → List ℕ → ℕ → ℕ
 placeIn places w i = getD w (2 * places + i) 0
