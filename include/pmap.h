@@ -109,7 +109,7 @@ enum {
  * it carries the first crossing: of all pairs of unmarked borders that come as a, b, a, b in the tour the one whose second a
  * has the lowest place, and among those the one whose first b has the lowest place. Bits 8 to 19 hold the smaller of the two
  * border numbers, bits 20 to 31 the larger. Otherwise those bits are 0. Which pair is first depends on the marks and on the
- * start; whoever repairs it, packs again and repairs the next, goes through the tour from its start onwards.
+ * start; docs/REFUSALS.md shows a drawing that is repaired so, from the start of its tour onwards.
  * Status: 0, 1, 2, 3, 4, 5, 6, 7.
  */
 uint32_t pmap_pack(const uint16_t *turning, size_t turning_len, const uint8_t *marks, size_t marks_len, size_t start,
