@@ -25,7 +25,7 @@ use Rattle.drawing.proofs.Ends.{border-below}
 use Rattle.drawing.proofs.Crossing.{Lowest, crosses-none, crossing-in-is, crossing-in-none}
 use Rattle.crossing.specs.declared.find.Found.{Found}
 use Rattle.touring.specs.Working.{Outside, Charted, tourIn, borderIn, met}
-use Rattle.crossing.specs.Finding.{foundMeans, charted, Stands, Above, placeIn}
+use Rattle.crossing.specs.Finding.{foundMeans, chartTour, Stands, Above, placeIn}
 use Rattle.touring.proofs.Outside.{outside-none, outside-set}
 use Rattle.crossing.proofs.Nests.{Stacked, stacked-start, stacked-skip, stacked-push, stacked-pop, stacked-none, stacked-there, stacked-lowest}
 
@@ -55,9 +55,9 @@ module _ (ms old : List ℕ) (C : Charted (double ms) old) where
     pub nesting-outside : Outside (2 * double ms) (3 * double ms) old w
     nesting-outside = N .outside
 
-    pub nesting-none : places ≤ p → [] ≡ crossingIn (charted ms old)
+    pub nesting-none : places ≤ p → [] ≡ crossingIn (chartTour ms old)
     nesting-none l =
-        let T : Tour = charted ms old in
+        let T : Tour = chartTour ms old in
         sym (crossing-in-none T (crosses-none T (stacked-none ms places (tourIn old) (C .once) p k (placeIn places w) (N .stack) l)))
 
     -- what is read of the first two thirds is as it was
@@ -196,17 +196,17 @@ module _ (ms old : List ℕ) (C : Charted (double ms) old) where
                     }
 
                 pub nesting-found : (a : ℕ) → Above places k e w a → (x : Found) → foundMeans x ≡ smallerFirst e a
-                    → foundMeans x ≡ crossingIn (charted ms old)
+                    → foundMeans x ≡ crossingIn (chartTour ms old)
                 nesting-found a A x f =
                     let bj : A .j < k = omega (arith, A .not-top) in
                     let y : ℕ = placeIn places w (A .j + 1) in
                     let up : a ≡ border (tourIn old y) = A .next ∙ same-border (A .j + 1) (A .not-top) in
-                    let L : Lowest (charted ms old) p y
+                    let L : Lowest (chartTour ms old) p y
                     = stacked-lowest ms places (tourIn old) (C .once) p k (placeIn places w) (N .stack) l unmarked-here refl
                     (A .j) (A .not-top) (sym (same-border (A .j) bj) ∙ A .is-there ∙ is-border) in
                     f
                     ∙ ap (λ x. smallerFirst x a) is-border
                     ∙ ap (λ x. smallerFirst (border (tourIn old p)) x) up
-                    ∙ sym (crossing-in-is (charted ms old) p y L)
+                    ∙ sym (crossing-in-is (chartTour ms old) p y L)
 
 pub ruleset some-all = (nesting-some, needs)

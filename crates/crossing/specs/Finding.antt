@@ -2,7 +2,7 @@
 --
 -- foundMeans f         == the two borders that the case f has, or none
 -- borderTour ms places t == the borders along the ends t, as the search for the first crossing reads them; ms are the marks
--- charted ms w         == those along the tour that stands in the working list w
+-- chartTour ms w         == those along the tour that stands in the working list w
 -- placeIn places w i   == the place at i on the stack that is the last third of w
 -- Stands places k e w  == the stack holds k places, and border e is on it, not on top
 -- Above places k e w r == r is the border directly above e on it
@@ -31,8 +31,8 @@ borderTour ms places t =
       unmarked = λ e. ltb e (length ms) && not (eqb (getD ms e 0) 1);
     }
 
-abbrev pub charted : List ℕ → List ℕ → Tour
-charted ms w = borderTour ms (2 * length ms) (tourIn w)
+abbrev pub chartTour : List ℕ → List ℕ → Tour
+chartTour ms w = borderTour ms (2 * length ms) (tourIn w)
 
 abbrev pub placeIn : ℕ → List ℕ → ℕ → ℕ
 placeIn places w i = getD w (2 * places + i) 0

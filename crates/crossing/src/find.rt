@@ -6,7 +6,7 @@ ghost use Prim.Native.Nat.{_+_, _*_, _<_};
 ghost use lib.ListN.{length, getD};
 ghost use Rattle.drawing.specs.Checks.{smallerFirst, crossingIn};
 ghost use Rattle.touring.specs.Working.{Outside, Zeroed, Charted, borderIn};
-ghost use Rattle.crossing.specs.Finding.{foundMeans, charted, Stands, Above};
+ghost use Rattle.crossing.specs.Finding.{foundMeans, chartTour, Stands, Above};
 
 pub enum Found {
     Pair(usize, usize),
@@ -16,7 +16,7 @@ pub enum Found {
 // The first pair of unmarked borders that alternate in the tour, or that there is none. The last third of the list is left 0.
 pub fn find_crossing(marks: &[u8], work: &mut [u16]) -> Found
     requires { ⌜ Charted (2 * length (now marks)) (now work) ⌝ }
-    ensures { λ r. ⌜ foundMeans r ≡ crossingIn (charted (now (marks .entry)) (now (work .entry))) ⌝ }
+    ensures { λ r. ⌜ foundMeans r ≡ crossingIn (chartTour (now (marks .entry)) (now (work .entry))) ⌝ }
     ensures { λ _. ⌜ Zeroed (2 * (2 * length (now (marks .entry)))) (3 * (2 * length (now (marks .entry))))
         (now (work .entry)) (now (work .exit)) ⌝ }
 {
@@ -31,7 +31,7 @@ pub fn find_crossing(marks: &[u8], work: &mut [u16]) -> Found
 // all those above it are open, and it was met first of them.
 fn follow(marks: &[u8], work: &mut [u16]) -> Found
     requires { ⌜ Charted (2 * length (now marks)) (now work) ⌝ }
-    ensures { λ r. ⌜ foundMeans r ≡ crossingIn (charted (now (marks .entry)) (now (work .entry))) ⌝ }
+    ensures { λ r. ⌜ foundMeans r ≡ crossingIn (chartTour (now (marks .entry)) (now (work .entry))) ⌝ }
     ensures { λ _. ⌜ Outside (2 * (2 * length (now (marks .entry)))) (3 * (2 * length (now (marks .entry))))
         (now (work .entry)) (now (work .exit)) ⌝ }
 {

@@ -26,11 +26,11 @@ use lib.Dec.{leb}
 use borrow.Author.Tests.{le-leb}
 use Rattle.count.proofs.Logic.{both, pick-yes}
 use Rattle.drawing.specs.Drawing.{Drawing, Kind, borders, ends}
-use Rattle.drawing.specs.Checks.{firstCrossing, FirstCrossing, FindsFirst, PassesSeven}
+use Rattle.drawing.specs.Checks.{crosses, firstCrossing, FirstCrossing, PassesSix, PassesSeven}
 use Rattle.drawing.proofs.Crossing.{first-crossing}
 use Rattle.drawing.specs.Laid.{turningAfter, marksAfter}
 use Rattle.drawing.specs.Renumbered.{renumbered}
-use Rattle.drawing.specs.Session.{Answer, answer, refused}
+use Rattle.drawing.specs.Session.{Answer, answer, refusedWith, refused, numberOf}
 use Rattle.drawing.specs.Book.{bookAnswer, bookSession, bookNeighbours}
 use Rattle.format.specs.Bytes.{Size, sizeIn, mapLength, wordIn}
 use Rattle.format.specs.Open.{openRefusal, Opens, openOf}
@@ -72,8 +72,18 @@ packed-length D seven =
 abbrev carried : Drawing → ℕ → ℕ → List ℕ
 carried D work out = packCarries D (packRefusal D work out)
 
+-- 7, with whatever it carries
+seven-with : (a : Answer (List ℕ)) → numberOf a ≡ 7 → (xs : List ℕ) × (a ≡ refusedWith 7 xs)
+unfolding numberOf
+seven-with (answer s) e = absurd (omega arith)
+seven-with (refusedWith k xs) e = (xs, ap (λ j. refusedWith j xs) e)
+
+crossing-packed : (D : Drawing) (work out : ℕ) → Room D work out → PassesSix D → crosses D ≡ true → packOf D work out ≡ refusedWith 7 (firstCrossing D)
+crossing-packed D work out room six t =
+    pack-crosses D work out (firstCrossing D) .1 (room, six, first-crossing D .first (firstCrossing D) .1 (t, refl))
+
 pub demand-2-pack : (D : Drawing) (work out : ℕ) → Exact D work out
-unfolding packOf
+unfolding packOf numberOf
 demand-2-pack D work out =
     record {
       bytes = turan-packed D;
@@ -88,14 +98,17 @@ demand-2-pack D work out =
       );
       crosses = (
         λ e.
-            let c = pack-crosses D work out (firstCrossing D) .0 e in
-            let X : FirstCrossing D (firstCrossing D) = c .2 in
+            let y = seven-with (packOf D work out) e in
+            let c = pack-crosses D work out (y .0) .0 (y .1) in
+            let X : FirstCrossing D (y .0) = c .2 in
             (c .0, c .1, (X .a, X .b, X .crossing)),
-        λ c.
-            let F : FindsFirst D = first-crossing D in
-            pack-crosses D work out (firstCrossing D) .1 (c .0, c .1, F .first (firstCrossing D) .1 (F .exists .1 (c .2), refl)),
+        λ c. ap numberOf (crossing-packed D work out (c .0) (c .1) (first-crossing D .exists .1 (c .2))),
       );
       pair = pack-crosses D work out;
+      found = λ e.
+          let y = seven-with (packOf D work out) e in
+          let X : FirstCrossing D (y .0) = pack-crosses D work out (y .0) .0 (y .1) .2 in
+          y .1 ∙ ap (refusedWith 7) (first-crossing D .first (y .0) .0 X .1);
       places = λ six a b X. alternate-places D six a b (X .alternate);
       bare = λ k xs e d. pack-refusals D work out .refuses k xs .0 e .3 ∙ carries-none D k d;
       long = λ seven. packed-length D seven;

@@ -31,7 +31,7 @@ use Rattle.drawing.specs.Drawing.{Drawing, Kind, borders, ends, border, isMarke
 use Rattle.drawing.specs.Renumbered.{renumbered}
 use Rattle.drawing.specs.Laid.{lent, turningAfter, marksAfter}
 use Rattle.drawing.specs.Checks.{PassesSix, PassesSeven, Crossing, firstCrossing, FirstCrossing}
-use Rattle.drawing.specs.Session.{Answer, answer, refusedWith, Call}
+use Rattle.drawing.specs.Session.{Answer, answer, refusedWith, numberOf, Call}
 use Rattle.drawing.specs.Book.{bookSession, bookFirst, bookSize, bookNeighbours, bookJoining, numberAt, hasNumber, endsOn}
 use Rattle.format.specs.Bytes.{Size, sizeIn, wordIn, le16, bytesOf, closingBit, longest, mapLength}
 use Rattle.format.specs.Open.{Opens, openOf}
@@ -55,14 +55,15 @@ turanBytes D =
     ++ bytesOf (gather (λ p. not (markedAt D p)) (λ p. closingBit (isSecond D p)) (ends D)))))
 
 -- Demand 2: "Packing writes exactly Turán's three strings for the drawing's tour, and reports a crossing exactly when two
--- unmarked borders alternate in it, the earlier checks being passed." 02, 2/14: it then carries the first pair that does (`pair`),
--- and where a, b, a, b stand at p, q, r, s, the one at r is the "second a" and the one at q the "first b" (`places`); no other
+-- unmarked borders alternate in it, the earlier checks being passed." 02, 2/14: it then carries the first pair that does (`pair`,
+-- `found`), and where a, b, a, b stand at p, q, r, s, the one at r is the "second a" and the one at q the "first b" (`places`); no other
 -- refusal carries anything (`bare`).
 pub record Exact (D : Drawing) (work out : ℕ) : Type 0 where
   pub bytes : turanBytes D ≡ packedBytes D
   pub writes : (s : List ℕ) → (packOf D work out ≡ answer s) ↔ (Room D work out × PassesSeven D × (s ≡ turanBytes D))
-  pub crosses : (packOf D work out ≡ refusedWith 7 (firstCrossing D)) ↔ (Room D work out × PassesSix D × ((a : ℕ) × (b : ℕ) × Crossing D a b))
+  pub crosses : (numberOf (packOf D work out) ≡ 7) ↔ (Room D work out × PassesSix D × ((a : ℕ) × (b : ℕ) × Crossing D a b))
   pub pair : (xs : List ℕ) → (packOf D work out ≡ refusedWith 7 xs) ↔ (Room D work out × PassesSix D × FirstCrossing D xs)
+  pub found : numberOf (packOf D work out) ≡ 7 → packOf D work out ≡ refusedWith 7 (firstCrossing D)
   pub places : PassesSix D → (a b : ℕ) (X : Crossing D a b) → (isSecond D (X .alternate .r) ≡ true) × (isSecond D (X .alternate .q) ≡ false)
   pub bare : (k : ℕ) (xs : List ℕ) → packOf D work out ≡ refusedWith k xs → k ≢ 7 → xs ≡ []
   pub long : PassesSeven D → length (turanBytes D) ≡ mapLength (sizeFor D)

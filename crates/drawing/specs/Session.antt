@@ -3,7 +3,7 @@
 -- Answer A         == what a call gives: an answer, or a refusal, its number and the numbers that it carries
 -- refused k        == refusal k, which carries nothing
 -- numberOf a       == document 01's number for it: 0 for an answer
--- carriedBy a      == the numbers that a refusal carries
+-- carriedBy a      == the numbers that a refusal carries; none with an answer
 -- valueOf a        == the number in an answer; 0 where the call is refused
 -- Call             == the six calls of a session
 -- isMove c         == whether the answer of c is the new place: cross, turn, turn back and along

@@ -33,7 +33,7 @@ use Rattle.format.proofs.Encode.{map-bytes-same}
 use Rattle.drawing.specs.Laid.{lent}
 use Rattle.checking.specs.Lent.{Blank, Kept}
 use Rattle.touring.specs.Working.{Outside, Zeroed, Tours, Clean, Noted, Charted, tourIn, borderIn, met}
-use Rattle.crossing.specs.Finding.{charted}
+use Rattle.crossing.specs.Finding.{chartTour}
 use Rattle.writing.specs.Writing.{wordAt, chartBytes, Legible, Sized}
 use Rattle.writing.proofs.Filling.{round-is}
 
@@ -175,6 +175,6 @@ module _ (ts ms : List ℕ) (s : ℕ) (six : PassesSix (lent ts ms s)) where
         ∙ count-borders (isMarked D) (borders D) in
         record { least = omega arith; most = omega arith; rounds = omega arith }
 
-    pub chart-alike : Alike (charted ms w) (tourOf (lent ts ms s))
+    pub chart-alike : Alike (chartTour ms w) (tourOf (lent ts ms s))
     unfolding tourOf ends borders isMarked
     chart-alike = record { size = refl; at = λ p l. ap border (at-end p l); unmarked = λ e. refl }

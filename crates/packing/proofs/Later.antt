@@ -34,7 +34,7 @@ use Rattle.packing.specs.declared.answers.Packed.the-variants as the-cas
 use Rattle.crossing.specs.declared.find.Found.{Found}
 use Rattle.crossing.specs.declared.find.Found.the-variants as the-found
 use Rattle.packing.specs.Answers.{packedMeans, lengthOf, written, laterRefusal, laterOf, PacksLater}
-use Rattle.crossing.specs.Finding.{foundMeans, charted}
+use Rattle.crossing.specs.Finding.{foundMeans, chartTour}
 use Rattle.writing.specs.Writing.{chartBytes}
 use Rattle.packing.proofs.Charting.{Chart, chart-bytes, chart-alike}
 
@@ -148,11 +148,11 @@ module _ (ts ms : List ℕ) (s : ℕ) (six : PassesSix (lent ts ms s)) where
 
   module _ (w : List ℕ) (C : Chart (lent ts ms s) w) where
     -- the tour in the working list is the drawing's
-    found-is : (x : Found) → foundMeans x ≡ crossingIn (charted ms w) → foundMeans x ≡ firstCrossing (lent ts ms s)
+    found-is : (x : Found) → foundMeans x ≡ crossingIn (chartTour ms w) → foundMeans x ≡ firstCrossing (lent ts ms s)
     unfolding firstCrossing
-    found-is x Y = Y ∙ crossing-in-same (charted ms w) (tourOf G) (chart-alike ts ms s six w C)
+    found-is x Y = Y ∙ crossing-in-same (chartTour ms w) (tourOf G) (chart-alike ts ms s six w C)
 
-    pub finish-pair : (x : Found) → foundMeans x ≡ crossingIn (charted ms w) → (a b : ℕ) → x ≡ the-found.Pair a b
+    pub finish-pair : (x : Found) → foundMeans x ≡ crossingIn (chartTour ms w) → (a b : ℕ) → x ≡ the-found.Pair a b
         → (old : List ℕ) → PacksLater (lent ts ms s) (packedMeans (the-case.Crossing a b)) old old
     finish-pair x Y a b f old =
         let is : a ∷ b ∷ [] ≡ firstCrossing G = sym (ap foundMeans f) ∙ found-is x Y in
@@ -164,7 +164,7 @@ module _ (ts ms : List ℕ) (s : ℕ) (six : PassesSix (lent ts ms s)) where
         let e : laterOf G ≡ refusedWith 7 (a ∷ b ∷ []) = later-is G 7 (later-7 G four five few t) ∙ ap (refusedWith 7) (sym is) in
         record { answers = sym (ap lengthOf e); output = sym (ap (λ x. written x old) e) }
 
-    pub finish-none : (x : Found) → foundMeans x ≡ crossingIn (charted ms w) → x ≡ the-found.Nothing → (n : ℕ) → n ≡ cells (lent ts ms s) Kind.point
+    pub finish-none : (x : Found) → foundMeans x ≡ crossingIn (chartTour ms w) → x ≡ the-found.Nothing → (n : ℕ) → n ≡ cells (lent ts ms s) Kind.point
         → (v : List ℕ) → Chart (lent ts ms s) v → (r : ℕ) (old new : List ℕ)
         → r ≡ length (chartBytes n ms v) → new ≡ laid (chartBytes n ms v) old
         → PacksLater (lent ts ms s) (packedMeans (the-case.Length r)) old new
