@@ -5,6 +5,7 @@
 -- book-call      == the answer of a call at any number, refusals included
 -- session-same   == sessions are alike where all answers are
 -- book-session   == so is every session
+-- lands-agree    == the point (area) across a place
 -- join-agrees    == the search for a joining border
 -- numbers-agree  == the book has these numbers and no others
 -- book-first, book-size, book-neighbours, book-joining == the book on point and area numbers, refusals included
@@ -25,12 +26,13 @@ use Rattle.words.specs.declared.family.Family.the-variants.{Round as round}
 use Rattle.words.specs.Word.{seen, crossing}
 use Rattle.words.proofs.Step.{step-below}
 use Rattle.words.proofs.Numbers.{openings}
-use Rattle.drawing.specs.Drawing.{Drawing, Kind, borders, ends, other, turn, endAt, positionOf}
+use Rattle.drawing.specs.Drawing.{Drawing, Kind, borders, ends, other, turn, cells, endAt, positionOf}
 use Rattle.drawing.specs.Session.{Answer, answer, refused, Call, placeAfter, session}
 use Rattle.drawing.specs.Book.{placeOf, numberAt, answerAt, bookAnswer, bookSession, noSuch, hasNumber, firstPosition, endsOn, joinFrom}
 use Rattle.drawing.specs.Book.{bookFirst, bookSize, bookNeighbours, bookJoining}
+use Rattle.drawing.proofs.Neighbours.{neighbours-same}
 use Rattle.format.specs.Pack.{wordOf}
-use Rattle.format.specs.Calls.{moveIn, atPlace, firstIn, placesIn, joinIn}
+use Rattle.format.specs.Calls.{moveIn, atPlace, firstIn, placesIn, neighboursIn, joinIn}
 use Rattle.agreement.specs.Toured.{Toured}
 use Rattle.agreement.proofs.Positions.{partner, end-other, partner-below}
 use Rattle.agreement.proofs.Nesting.{word-balanced, cross-mate}
@@ -92,14 +94,19 @@ module _ {D : Drawing} (T : Toured D) where
   unfolding bookSession
   book-session i cs = session-same (bookAnswer D) (atPlace (wordOf D)) book-call i cs
 
+  -- the point (area) across a place: the number at its other end
+  lands-agree : (c : Kind) (p : ℕ) → p < ends D → numberAt D c (other (endAt D p)) ≡ number (cellWord D c) (crossing (wordOf D) p)
+  lands-agree c p l =
+      ap (numberAt D c) (sym (end-other T p l)) ∙ number-agrees T c (partner D p) (partner-below T p l)
+      ∙ ap (number (cellWord D c)) (cross-mate T p l)
+
   pub join-agrees : (v j p : ℕ) → p < ends D → joinFrom D v j (endAt D p) ≡ joinIn (wordOf D) v j p
   unfolding joinFrom joinIn wordOf
   join-agrees v zero p l = refl
   join-agrees v (suc j) p l =
       let b : ℕ → Bracket = seen round (wordOf D) in
       let lands : numberAt D Kind.point (other (endAt D p)) ≡ number b (crossing (wordOf D) p)
-      = ap (numberAt D Kind.point) (sym (end-other T p l)) ∙ number-agrees T Kind.point (partner D p) (partner-below T p l)
-      ∙ ap (number b) (cross-mate T p l) in
+      = lands-agree Kind.point p l in
       let here : placeOf D (endAt D p) ≡ suc p = ap suc (T .meets .position-end p l) in
       let rest : joinFrom D v j (turn D (endAt D p)) ≡ joinIn (wordOf D) v j (step b (ends D) p)
       = ap (joinFrom D v j) (turn-end T p l)
@@ -132,9 +139,14 @@ module _ {D : Drawing} (T : Toured D) where
   unfolding bookSize
   book-size c k = ap₂ (λ (t : Bool) (x : ℕ). pick t (answer x) (refused (noSuch c))) (numbers-agree c k) (size-agrees T c k)
 
-  pub book-neighbours : (k : ℕ) → bookNeighbours D k ≡ pick (isNumbered D Kind.area k) (answer (placesIn (wordOf D) Kind.area k)) (refused 15)
-  unfolding bookNeighbours
-  book-neighbours k = book-size Kind.area k
+  pub book-neighbours : (k : ℕ)
+      → bookNeighbours D k ≡ pick (isNumbered D Kind.area k) (answer (neighboursIn (wordOf D) (cells D Kind.area) k)) (refused 15)
+  unfolding bookNeighbours neighboursIn wordOf
+  book-neighbours k =
+      ap₂ (λ (t : Bool) (x : ℕ). pick t (answer x) (refused 15)) (numbers-agree Kind.area k)
+      (neighbours-same (numberAt D Kind.area) other (number (cellWord D Kind.area)) (crossing (wordOf D)) (endAt D) (positionOf D) (ends D)
+      (T .meets .end-below) (T .meets .position-below) (T .meets .end-position)
+      (number-agrees T Kind.area) (lands-agree Kind.area) (cells D Kind.area) k)
 
   pub book-joining : (u v : ℕ)
       → bookJoining D u v

@@ -3,6 +3,7 @@
 -- Alike v w        == v and w have one size, and the same letter at each position below it
 -- alike-call       == the same answer to every call at every number
 -- alike-first, alike-places, alike-lowest == the same first places, sizes and lowest positions
+-- alike-neighbours == the same neighbour counts
 -- alike-joining    == the same joining borders
 -- Assumes nothing.
 use mathlib.Core.Path.{_≡_, refl, sym, ap, ap₂, _∙_, subst}
@@ -24,8 +25,9 @@ use Rattle.words.proofs.Step.{step-below}
 use Rattle.words.proofs.Same.{mate-same, step-same, back-same, number-same, isFirst-same, isLast-same, first-same, size-same}
 use Rattle.drawing.specs.Drawing.{Kind}
 use Rattle.drawing.specs.Session.{Answer, answer, refused, Call}
+use Rattle.drawing.proofs.Neighbours.{neighbours-same}
 use Rattle.words.proofs.Crossing.{crossing-below}
-use Rattle.format.specs.Calls.{familyOfKind, moveIn, atPlace, firstIn, placesIn, joinIn}
+use Rattle.format.specs.Calls.{familyOfKind, moveIn, atPlace, firstIn, placesIn, neighboursIn, joinIn}
 
 pub record Alike (v w : Word) : Type 0 where
   pub sizes : v .size ≡ w .size
@@ -118,6 +120,17 @@ module _ (n : ℕ) (f g : ℕ → Letter) (same : (p : ℕ) → p < n → f p �
       ∙ ap (λ x. pick (eqb (number (seen round (word n g)) q) v) (suc p) x) next
       ∙ sym (join-step (word n g) v k p)
 
+  neighbours-alike : (v k : ℕ) → neighboursIn (word n f) v k ≡ neighboursIn (word n g) v k
+  unfolding neighboursIn
+  neighbours-alike v k =
+      let area : ℕ → ℕ = number (seen square (word n f)) in
+      let area′ : ℕ → ℕ = number (seen square (word n g)) in
+      let alike-area : (p : ℕ) → p < n → area p ≡ area′ p
+      = λ p l. number-same (seen square (word n f)) (seen square (word n g)) n (seen-same n f g same square) p (omega arith) in
+      neighbours-same area (crossing (word n f)) area′ (crossing (word n g)) (λ p. p) (λ p. p) n
+      (λ p l. l) (λ p l. l) (λ p l. refl) alike-area
+      (λ p l. ap area (crossing-same n f g same p l) ∙ alike-area (crossing (word n g) p) (crossing-below (word n g) nested p l)) v k
+
 -- any two words that are alike are words of one size
 module _ (P : Word → Word → Type 0) where
   alike : (v w : Word) → Alike v w → ((n : ℕ) (f g : ℕ → Letter) → ((p : ℕ) → p < n → f p ≡ g p) → P (word n f) (word n g)) → P v w
@@ -132,6 +145,12 @@ alike-first v w a c k = alike (λ x y. firstIn x c k ≡ firstIn y c k) v w a (�
 
 pub alike-places : (v w : Word) → Alike v w → (c : Kind) (k : ℕ) → placesIn v c k ≡ placesIn w c k
 alike-places v w a c k = alike (λ x y. placesIn x c k ≡ placesIn y c k) v w a (λ n f g s. places-alike n f g s c k)
+
+pub alike-neighbours : (v w : Word) → Alike v w → ((K : Family) → Balanced (seen K w) (w .size)) → (x k : ℕ)
+    → neighboursIn v x k ≡ neighboursIn w x k
+alike-neighbours v w a nested x k =
+    subst (λ m. neighboursIn (word m (v .letter)) x k ≡ neighboursIn w x k) (sym (a .sizes))
+    (neighbours-alike (w .size) (v .letter) (w .letter) (a .letters) nested x k)
 
 alike-join : (v w : Word) → Alike v w → ((K : Family) → Balanced (seen K w) (w .size))
     → (to k p : ℕ) → p < w .size → joinIn v to k p ≡ joinIn w to k p

@@ -2,7 +2,7 @@
 --
 -- opens-opened     == a call on bytes that open gives its own answer
 -- packed-call      == every call at every number on the packed bytes is the book's
--- packed-first, packed-size-of, packed-joining == so are first places, sizes and joining borders
+-- packed-first, packed-size-of, packed-neighbours, packed-joining == so are first places, sizes, neighbour counts and joining borders
 -- Assumes nothing.
 use mathlib.Core.Path.{_≡_, refl, sym, ap, ap₂, _∙_}
 use mathlib.Core.Logic.{_⊎_, inl, inr}
@@ -23,18 +23,18 @@ use Rattle.words.proofs.Same.{first-same}
 use Rattle.drawing.specs.Drawing.{Drawing, Kind, borders, ends, cells}
 use Rattle.drawing.specs.Checks.{PassesSeven}
 use Rattle.drawing.specs.Session.{Answer, answer, refused, Call}
-use Rattle.drawing.specs.Book.{bookAnswer, bookFirst, bookSize, bookJoining, noSuch}
+use Rattle.drawing.specs.Book.{bookAnswer, bookFirst, bookSize, bookNeighbours, bookJoining, noSuch}
 use Rattle.format.specs.Bytes.{Size, sizeIn, wordIn}
 use Rattle.format.specs.Open.{openRefusal, afterRefusal, opened}
-use Rattle.format.specs.Calls.{mapAnswer, atPlace, cellsIn, isNumber, familyOfKind, firstIn, firstOf, placesIn, sizeOf, joinIn, joiningOf}
+use Rattle.format.specs.Calls.{mapAnswer, atPlace, cellsIn, isNumber, familyOfKind, firstIn, firstOf, placesIn, sizeOf, neighboursIn, neighboursOf, joinIn, joiningOf}
 use Rattle.format.specs.Pack.{wordOf, packedBytes}
 use Rattle.agreement.specs.Toured.{Toured}
 use Rattle.agreement.proofs.Passed.{passes-toured, packed-opens, packed-size}
 use Rattle.agreement.proofs.Counts.{cells-in, cells-agree}
 use Rattle.agreement.proofs.Nesting.{word-balanced}
 use Rattle.agreement.proofs.Steps.{cellWord}
-use Rattle.agreement.proofs.Book.{isNumbered, book-call, book-first, book-size, book-joining}
-use Rattle.demands.proofs.Alike.{Alike, alike-call, alike-first, alike-places, alike-joining}
+use Rattle.agreement.proofs.Book.{isNumbered, book-call, book-first, book-size, book-neighbours, book-joining}
+use Rattle.demands.proofs.Alike.{Alike, alike-call, alike-first, alike-places, alike-neighbours, alike-joining}
 use Rattle.demands.proofs.Faithful.{packed-alike}
 
 pub opens-opened : {A : Type 0} (s : List ℕ) (a : Answer A) → openRefusal s ≡ 0 → opened s a ≡ a
@@ -64,11 +64,14 @@ module _ (D : Drawing) (seven : PassesSeven D) where
       ∙ alike-call (wordIn (packedBytes D)) (wordOf D) (packed-alike D seven) c i
       ∙ sym (book-call toured c i)
 
+  -- the header gives the number of points, of areas
+  packed-cells : (c : Kind) → cellsIn (sizeIn (packedBytes D)) c ≡ cells D c
+  packed-cells c = ap (λ (z : Size). cellsIn z c) (packed-size D seven) ∙ sym (cells-in toured c)
+
   -- the map's test of a number is the word's
   number-test : (c : Kind) (k : ℕ) → isNumber (sizeIn (packedBytes D)) c k ≡ isNumbered D c k
   number-test c k =
-      ap (λ (z : Size). isNumber z c k) (packed-size D seven)
-      ∙ ap (λ (v : ℕ). ltb 0 k && leb k v) (sym (cells-in toured c) ∙ cells-agree toured c)
+      ap (λ (v : ℕ). ltb 0 k && leb k v) (packed-cells c ∙ cells-agree toured c)
 
   pub packed-first : (c : Kind) (k : ℕ) → firstOf (packedBytes D) c k ≡ bookFirst D c k
   unfolding firstOf
@@ -85,6 +88,15 @@ module _ (D : Drawing) (seven : PassesSeven D) where
       ∙ ap₂ (λ (t : Bool) (x : ℕ). pick t (answer x) (refused (noSuch c))) (number-test c k)
       (alike-places (wordIn (packedBytes D)) (wordOf D) (packed-alike D seven) c k)
       ∙ sym (book-size toured c k)
+
+  pub packed-neighbours : (k : ℕ) → neighboursOf (packedBytes D) k ≡ bookNeighbours D k
+  unfolding neighboursOf
+  packed-neighbours k =
+      opens-opened (packedBytes D) _ (packed-opens D seven)
+      ∙ ap₂ (λ (t : Bool) (x : ℕ). pick t (answer x) (refused 15)) (number-test Kind.area k)
+      (alike-neighbours (wordIn (packedBytes D)) (wordOf D) (packed-alike D seven) (nested-word D seven) (cellsIn (sizeIn (packedBytes D)) Kind.area) k
+      ∙ ap (λ v. neighboursIn (wordOf D) v k) (packed-cells Kind.area))
+      ∙ sym (book-neighbours toured k)
 
   pub packed-joining : (u v : ℕ) → joiningOf (packedBytes D) u v ≡ bookJoining D u v
   unfolding joiningOf

@@ -31,10 +31,10 @@ use Rattle.drawing.proofs.Crossing.{first-crossing}
 use Rattle.drawing.specs.Laid.{turningAfter, marksAfter}
 use Rattle.drawing.specs.Renumbered.{renumbered}
 use Rattle.drawing.specs.Session.{Answer, answer, refusedWith, refused, numberOf}
-use Rattle.drawing.specs.Book.{bookAnswer, bookSession, bookNeighbours}
+use Rattle.drawing.specs.Book.{bookAnswer, bookSession}
 use Rattle.format.specs.Bytes.{Size, sizeIn, mapLength, wordIn}
 use Rattle.format.specs.Open.{openRefusal, Opens, openOf}
-use Rattle.format.specs.Calls.{pointOf, areaOf, mapSession, mapAnswer, neighboursOf}
+use Rattle.format.specs.Calls.{pointOf, areaOf, mapSession, mapAnswer}
 use Rattle.format.specs.Pack.{wordOf, sizeFor, packedBytes, Room, packRefusal, packCarries, packOf, drawingOf, unpackOf}
 use Rattle.format.specs.Fits.{Fits}
 use Rattle.format.proofs.Chain.{after-zero, after-answer}
@@ -55,7 +55,7 @@ use Rattle.roundtrip.proofs.Renumbered.{unpacked-renumbered}
 use Rattle.demands.specs.Statements.{turanBytes, Exact, leftIn, RoundTrip, RoundTrips, Demand2}
 use Rattle.demands.specs.Statements.{Sessions, Numbers, SameCell, TurnZero, CellCounts, HasNumber, Agrees}
 use Rattle.demands.proofs.Faithful.{passes-faithful, packed-alike}
-use Rattle.demands.proofs.Answers.{opens-opened, packed-call, packed-first, packed-size-of, packed-joining}
+use Rattle.demands.proofs.Answers.{opens-opened, packed-call, packed-first, packed-size-of, packed-neighbours, packed-joining}
 use Rattle.demands.proofs.AlikeDrawings.{alike-drawing}
 use Rattle.demands.proofs.Cells.{same-number, turn-zero-in, cell-counts, known-numbers}
 use Rattle.demands.proofs.Turan.{turan-packed}
@@ -229,12 +229,11 @@ module _ (D : Drawing) (seven : PassesSeven D) where
       record { same = λ i calls. session-same (mapAnswer (packedBytes D)) (bookAnswer D) (packed-call D seven) i calls }
 
   pub demand-3-numbers : Numbers D (packedBytes D)
-  unfolding neighboursOf bookNeighbours
   demand-3-numbers =
       record {
         first = packed-first D seven;
         size = packed-size-of D seven;
-        neighbours = packed-size-of D seven Kind.area;
+        neighbours = packed-neighbours D seven;
         joining = packed-joining D seven;
       }
 

@@ -5,3 +5,4 @@ pub mod Checks
 pub mod Crossing
 pub mod Labels
 pub mod Cells
+pub mod Neighbours

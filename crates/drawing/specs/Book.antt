@@ -19,6 +19,7 @@ use Prim.Native.Nat.{ℕ, zero, suc, pred}
 use lib.Dec.{eqb, ltb, leb}
 use Rattle.count.specs.Below.{pick, find, count}
 use Rattle.drawing.specs.Drawing.{Drawing, Kind, borders, ends, other, turn, around, cellOf, cells, endAt, positionOf}
+use Rattle.drawing.specs.Neighbours.{neighbours}
 use Rattle.drawing.specs.Session.{Answer, answer, refused, Call, Outcome, session}
 
 -- 01: "its tour, which gives each end its place"
@@ -94,10 +95,12 @@ unfoldable pub bookSize : Drawing → Kind → ℕ → Answer ℕ
 unfolding hasNumber endsOn
 bookSize D c k = pick (hasNumber D c k) (answer (endsOn D c k)) (refused (noSuch c))
 
--- 01, Moves: "An area's neighbour count is its number of sides."
+-- 02, 3/14: "The neighbour count becomes the number of other areas across at least one side." The book: "read with the book's
+-- crossings, numbers".
 unfoldable pub bookNeighbours : Drawing → ℕ → Answer ℕ
-unfolding bookSize
-bookNeighbours D k = bookSize D Kind.area k
+unfolding hasNumber neighbours numberAt other ends cells
+bookNeighbours D k =
+    pick (hasNumber D Kind.area k) (answer (neighbours (numberAt D Kind.area) other (ends D) (cells D Kind.area) k)) (refused 15)
 
 -- the place of the first of k ends from h on, in turning order, whose other end is on point v; 0 where none is
 unfoldable pub joinFrom : Drawing → ℕ → ℕ → ℕ → ℕ

@@ -4,4 +4,5 @@ pub mod Renumbered
 pub mod Checks
 pub mod Session
 pub mod Laid
+pub mod Neighbours
 pub mod Book

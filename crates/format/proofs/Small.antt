@@ -3,7 +3,7 @@
 -- mate-most, step-most, back-most, number-most == partners, steps and numbers go little beyond the word
 -- move-most, first-most, size-most, join-most == so do the answers of the calls
 -- own-small   == an answer is small if it is where the checks pass
--- move-small, first-small, size-small, joining-small == every answer of a call is below 65,536
+-- move-small, first-small, size-small, neighbours-small, joining-small == every answer of a call is below 65,536
 -- cross-fits, turn-fits, turn-back-fits, along-fits, point-fits, area-fits, first-fits, size-fits, neighbours-fit, joining-fits
 --             == so is an answer that equals one
 -- Assumes nothing.
@@ -25,9 +25,10 @@ use Rattle.words.proofs.Stack.{inner-le}
 use Rattle.drawing.specs.Drawing.{Kind}
 use Rattle.drawing.specs.Session.{Answer, answer, refused, valueOf, Call}
 use Rattle.drawing.specs.Book.{noSuch}
+use Rattle.drawing.proofs.Neighbours.{neighbours-le}
 use Rattle.format.specs.Bytes.{sizeIn, wordIn}
 use Rattle.format.specs.Open.{openRefusal, afterRefusal, opened}
-use Rattle.format.specs.Calls.{familyOfKind, moveIn, atPlace, mapAnswer, crossOf, turnOf, turnBackOf, alongOf, pointOf, areaOf, isNumber, firstIn, firstOf, placesIn, sizeOf, neighboursOf, joinIn, joiningOf}
+use Rattle.format.specs.Calls.{familyOfKind, moveIn, atPlace, mapAnswer, crossOf, turnOf, turnBackOf, alongOf, pointOf, areaOf, cellsIn, isNumber, firstIn, firstOf, placesIn, sizeOf, neighboursIn, neighboursOf, joinIn, joiningOf}
 use Rattle.format.proofs.Passes.{opens-passes}
 
 -- ---- brackets of a word of n letters; N is any bound of n and of the position
@@ -147,6 +148,13 @@ module _ (s : List ℕ) where
       own-small (openRefusal s) (isNumber (sizeIn s) c k) (placesIn (wordIn s) c k) (noSuch c)
       (λ e t. omega (arith, size-most (wordIn s) 4096 (word-most e) c k))
 
+  pub neighbours-small : (k : ℕ) → valueOf (neighboursOf s k) < 65536
+  unfolding neighboursOf opened neighboursIn
+  neighbours-small k =
+      let v : ℕ = cellsIn (sizeIn s) Kind.area in
+      own-small (openRefusal s) (isNumber (sizeIn s) Kind.area k) (neighboursIn (wordIn s) v k) 15
+      (λ e t. omega (arith, opens-passes s e .m-most, neighbours-le (number (seen square (wordIn s))) (crossing (wordIn s)) (wordIn s .size) v k))
+
   pub joining-small : (u v : ℕ) → valueOf (joiningOf s u v) < 65536
   unfolding joiningOf opened
   joining-small u v =
@@ -198,8 +206,7 @@ module _ (s : List ℕ) (a : Answer ℕ) where
     size-fits c e = small (sizeOf s c i) e (size-small s c i)
 
     pub neighbours-fit : a ≡ neighboursOf s i → valueOf a < 65536
-    unfolding neighboursOf
-    neighbours-fit e = small (neighboursOf s i) e (size-small s Kind.area i)
+    neighbours-fit e = small (neighboursOf s i) e (neighbours-small s i)
 
     pub joining-fits : (v : ℕ) → a ≡ joiningOf s i v → valueOf a < 65536
     joining-fits v e = small (joiningOf s i v) e (joining-small s i v)

@@ -5,7 +5,7 @@
 -- crossOf, turnOf, turnBackOf, alongOf, pointOf, areaOf == the six, by name
 -- mapSession s i cs   == a session on the map s
 -- firstOf, sizeOf     == first place, and degree or sides, of a point or an area of the map s: 8 to 12, 14 or 15
--- neighboursOf        == the neighbour count of an area
+-- neighboursIn, neighboursOf == the neighbour count of an area of a word, of the map s
 -- joiningOf s u v     == the joining border of points u and v
 -- Assumes nothing.
 use mathlib.Core.Bool.{Bool, true, false, _&&_}
@@ -19,6 +19,7 @@ use Rattle.words.specs.declared.family.Family.the-variants.{Round as round, Squ
 use Rattle.words.specs.Word.{Word, seen, crossing}
 use Rattle.drawing.specs.Drawing.{Kind}
 use Rattle.drawing.specs.Session.{Answer, answer, refused, Call, Outcome, session}
+use Rattle.drawing.specs.Neighbours.{neighbours}
 use Rattle.drawing.specs.Book.{noSuch}
 use Rattle.format.specs.Bytes.{Size, sizeIn, wordIn}
 use Rattle.format.specs.Open.{opened}
@@ -104,10 +105,17 @@ unfoldable pub sizeOf : List ℕ → Kind → ℕ → Answer ℕ
 unfolding opened sizeIn placesIn wordIn
 sizeOf s c k = opened s (pick (isNumber (sizeIn s) c k) (answer (placesIn (wordIn s) c k)) (refused (noSuch c)))
 
--- 01, Moves: "An area's neighbour count is its number of sides."
+-- 02, 3/14: "The area across a side is the area of its crossing. The neighbour count becomes the number of other areas across at
+-- least one side." There are v areas.
+unfoldable pub neighboursIn : Word → ℕ → ℕ → ℕ
+unfolding neighbours number seen crossing
+neighboursIn w v k = neighbours (number (seen square w)) (crossing w) (w .size) v k
+
 unfoldable pub neighboursOf : List ℕ → ℕ → Answer ℕ
-unfolding sizeOf
-neighboursOf s k = sizeOf s Kind.area k
+unfolding opened sizeIn neighboursIn wordIn
+neighboursOf s k =
+    opened s
+    (pick (isNumber (sizeIn s) Kind.area k) (answer (neighboursIn (wordIn s) (cellsIn (sizeIn s) Kind.area) k)) (refused 15))
 
 -- the first of k places from position p on, in turning order, whose crossing lands at point v; 0 where none does
 unfoldable pub joinIn : Word → ℕ → ℕ → ℕ → ℕ

@@ -1,8 +1,9 @@
--- First places and sizes: the number of the check that declines, or what the word gives.
+-- First places, sizes and neighbours: the number of the check that declines, or what the word gives.
 --
--- first-declines, size-declines == the number of the check
+-- first-declines, size-declines, neighbours-decline == the number of the check
 -- first-none, first-some        == the first place of a point (area): 0 on an empty map, else that of its first position
 -- size-answers                  == how many places it has
+-- neighbours-answer             == how many other areas lie across an area's sides
 -- Assumes nothing.
 use mathlib.Core.Path.{_≡_, sym, ap, _∙_}
 use mathlib.Core.List.{List}
@@ -16,7 +17,8 @@ use Rattle.words.specs.Word.{seen}
 use Rattle.drawing.specs.Drawing.{Kind}
 use Rattle.drawing.specs.Session.{answer, refused}
 use Rattle.format.specs.Bytes.{sizeIn, bitsA, wordIn}
-use Rattle.format.specs.Calls.{familyOfKind, firstIn, firstOf, placesIn, sizeOf}
+use Rattle.format.specs.Calls.{familyOfKind, firstIn, firstOf, placesIn, sizeOf, neighboursOf}
+use Rattle.neighbouring.specs.Counted.{neighboursAt}
 use Rattle.opening.specs.Checks.{cellRefusal}
 use Rattle.opening.proofs.Passed.{cell-declines, cell-answers}
 
@@ -52,3 +54,12 @@ module _ (s : List ℕ) (c : Kind) (k o : ℕ) (e : o ≡ cellRefusal s c k) whe
     pub size-answers : (r : ℕ) → r ≡ placesIn (wordIn s) c k → answer r ≡ sizeOf s c k
     unfolding sizeOf
     size-answers r h = ap answer h ∙ cell-answers s c k o e (answer (placesIn (wordIn s) c k)) z
+
+module _ (s : List ℕ) (k o : ℕ) (e : o ≡ cellRefusal s Kind.area k) where
+  pub neighbours-decline : (o ≡ 0 → ⊥) → refused o ≡ neighboursOf s k
+  unfolding neighboursOf
+  neighbours-decline m = cell-declines s Kind.area k o e (answer (neighboursAt s k)) m
+
+  pub neighbours-answer : o ≡ 0 → (r : ℕ) → r ≡ neighboursAt s k → answer r ≡ neighboursOf s k
+  unfolding neighboursOf
+  neighbours-answer z r h = ap answer h ∙ cell-answers s Kind.area k o e (answer (neighboursAt s k)) z

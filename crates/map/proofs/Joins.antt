@@ -9,7 +9,6 @@
 -- joining-end, joining-back == 0 after the point's last place
 -- joining-more    == no place is answered where more are left than are looked at
 -- found-early, found-full == what is a place or 0 is the answer; it is one if all places may be looked at
--- mates-long, numbers-long == the lists of a map have 4,096 entries still
 -- join-empty, join-start, join-full == the search about u, from its first position
 -- join-declines, join-no-such == 8 to 12 and 14 for u; 14 for v
 -- join-answers    == the place that the search finds
@@ -22,13 +21,10 @@ use Prim.Native.Nat.{ℕ, zero, suc, _+_, _-_, _<_, _≤_}
 use native.Mathlib.Omega.{arith}
 use borrow.Author.Tests.{eq-eqb, ne-eqb, eqb-true, eqb-false}
 use lib.Dec.{eqb}
-use lib.ListN.{length, drop, length-append, length-drop}
-use Rattle.count.specs.Below.{pick, count, table}
+use Rattle.count.specs.Below.{pick, count}
 use Rattle.count.proofs.Logic.{true-or-false}
 use Rattle.count.proofs.Counts.{count-yes, count-no, count-none, count-before}
-use Rattle.count.proofs.Lists.{table-length}
 use Rattle.words.specs.Brackets.{Bracket, Balanced, inner, mate, next, number, step, first, size}
-use Rattle.words.specs.declared.family.Family.{Family}
 use Rattle.words.specs.declared.family.Family.the-variants.{Round as round}
 use Rattle.words.specs.Word.{seen, Word, crossing}
 use Rattle.words.proofs.Stack.{inner-le}
@@ -37,11 +33,10 @@ use Rattle.words.proofs.Numbers.{inner-number, number-inner}
 use Rattle.words.proofs.Order.{walk-rises, walk-returns}
 use Rattle.bits.specs.Strings.{bit}
 use Rattle.drawing.specs.Drawing.{Kind}
-use Rattle.drawing.specs.Laid.{laid}
 use Rattle.drawing.specs.Session.{Answer, answer, refused}
 use Rattle.format.specs.Bytes.{sizeIn, bitsA, partA, wordIn}
 use Rattle.format.specs.Calls.{isNumber, joinIn, placesIn, joiningOf}
-use Rattle.format.specs.Open.{opened, openRefusal}
+use Rattle.format.specs.Open.{opened}
 use Rattle.opening.specs.declared.answers.Point.{Point}
 use Rattle.opening.specs.declared.answers.Cell.{Cell}
 use Rattle.opening.specs.Checks.{cellRefusal}
@@ -51,7 +46,6 @@ use Rattle.map.specs.Joined.{joinedIn, joinedFrom, Start, Found, turnedI
 use Rattle.walking.specs.Positions.{Position, Numbered}
 use Rattle.walking.proofs.Decoded.{nested, places-most}
 use Rattle.walking.proofs.Walks.{mate-other}
-use Rattle.surveying.specs.Surveyed.{matesIn, numbersIn}
 use Rattle.surveying.proofs.Looked.{mate-in-own}
 
 -- ---- the bracket after p
@@ -237,22 +231,6 @@ module _ (s : List ℕ) (v f most n r : ℕ) (hn : n ≡ bitsA (sizeIn s)) (F : 
 
   pub found-full : most ≡ n → r ≡ joinedFrom s v f
   found-full e = F .is (F .enough (omega arith))
-
--- ---- lists of the whole map
-module _ (s old l : List ℕ) (O : openRefusal s ≡ 0) (h : length old ≡ 4096) where
-  laid-long : (f : ℕ → ℕ) → l ≡ laid (table f (bitsA (sizeIn s))) old → 4096 ≡ length l
-  laid-long f e =
-      let new : List ℕ = table f (bitsA (sizeIn s)) in
-      let t : length l ≡ length (laid new old) = ap length e in
-      omega (arith, t, table-length f (bitsA (sizeIn s)), places-most s O, length-append new (drop (length new) old), length-drop (length new) old)
-
-  pub mates-long : l ≡ laid (matesIn s) old → 4096 ≡ length l
-  unfolding matesIn
-  mates-long e = laid-long (crossing (wordIn s)) e
-
-  pub numbers-long : (K : Family) → l ≡ laid (numbersIn K s) old → 4096 ≡ length l
-  unfolding numbersIn
-  numbers-long K e = laid-long (number (seen K (wordIn s))) e
 
 -- ---- the search about u
 module _ (s : List ℕ) (u : Point) (v n : ℕ) (hn : n ≡ bitsA (sizeIn s)) where

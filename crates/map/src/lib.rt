@@ -3,7 +3,8 @@
 //     cross, turn, turn_back, along   the four moves: from a place to a place
 //     point_at, area_at               the point and the area of a place
 //     point_first, area_first         the first place of a point, of an area
-//     degree, sides, neighbours       how many places a point, an area has; an area's neighbour count
+//     degree, sides                   how many places a point, an area has
+//     neighbours                      how many other areas lie across the sides of an area
 //     joining                         the first place about a point whose crossing lands at another point
 //
 // Conventions. Places, points and areas each count from 1, and each kind of number has a type of its
@@ -11,7 +12,8 @@
 // map. No function asks anything of its caller: on any bytes and any number it answers, or it
 // declines with the number of the first check that fails.
 //
-// The source is document 01, "Moves", for the answers, and its table, rows 8 to 15, for the checks. The
+// The source is document 01, "Moves", for the answers, with document 02, 3/14, for the neighbours, and 01's table, rows 8 to 15,
+// for the checks. The
 // definitions that the contracts cite are those of the crate `format`. The types, their meaning and the
 // checks are those of `opening`.
 mod moves;

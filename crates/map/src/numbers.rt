@@ -1,5 +1,6 @@
-// Points and areas: those of a place, their first places, and how many places they have.
+// Points and areas: those of a place, their first places, how many places they have, and an area's neighbours.
 use layout::bits_a;
+use neighbouring::neighbours_at;
 use opening::Area;
 use opening::AreaAnswer;
 use opening::Cell;
@@ -72,11 +73,15 @@ pub fn sides(map: &[u8], area: Area) -> Count
     size_of(map, Cell::Area(area))
 }
 
-// An area's neighbour count is its number of sides.
+// How many other areas lie across the area's sides.
 pub fn neighbours(map: &[u8], area: Area) -> Count
     ensures { λ r. ⌜ countMeans r ≡ neighboursOf (now (map .entry)) (area .0) ⌝ }
 {
-    sides(map, area)
+    let k = cell_refusal(map, Cell::Area(area));
+    if k != 0 {
+        return Count::Declined(k);
+    }
+    Count::Of(neighbours_at(map, area))
 }
 
 // The first place of a point or an area; an empty map has none.

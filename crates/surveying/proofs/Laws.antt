@@ -2,6 +2,7 @@
 --
 -- laid-table      == a list that has f below n, and is as before from n on, is the table of f laid on what it was
 -- mates-are, numbers-are == a list that was laid out so has each place's mate, each place's number
+-- mates-long, numbers-long == and has 4,096 entries still
 -- listed-size     == the degree of a point (the sides of an area): how many entries have its number
 -- listed-first    == its first position: the first entry that has its number
 -- listed-across   == the area (the point) across a place: the number at its mate
@@ -27,7 +28,7 @@ use Rattle.words.proofs.Crossing.{crossing-below}
 use Rattle.drawing.specs.Laid.{laid}
 use Rattle.format.specs.Bytes.{sizeIn, bitsA, wordIn}
 use Rattle.format.specs.Open.{openRefusal}
-use Rattle.walking.proofs.Decoded.{nested}
+use Rattle.walking.proofs.Decoded.{nested, places-most}
 use Rattle.surveying.specs.Surveyed.{matesIn, numbersIn, Mates, Numbers}
 
 module _ (f : ℕ → ℕ) (n : ℕ) (old : List ℕ) where
@@ -92,3 +93,19 @@ module _ (s l : List ℕ) (K : Family) (N : Numbers K s l) (r : bitsA (sizeIn s)
       let e : getD m p 0 ≡ crossing (wordIn s) p = M .at p i (omega arith) in
       let b = crossing-below (wordIn s) (λ X. nested s X o) p i in
       ap (λ x. getD l x 0) e ∙ N .at (crossing (wordIn s) p) b (omega arith)
+
+-- ---- lists of the whole map
+module _ (s old l : List ℕ) (O : openRefusal s ≡ 0) (h : length old ≡ 4096) where
+  laid-long : (f : ℕ → ℕ) → l ≡ laid (table f (bitsA (sizeIn s))) old → 4096 ≡ length l
+  laid-long f e =
+      let new : List ℕ = table f (bitsA (sizeIn s)) in
+      let t : length l ≡ length (laid new old) = ap length e in
+      omega (arith, t, table-length f (bitsA (sizeIn s)), places-most s O, length-append new (drop (length new) old), length-drop (length new) old)
+
+  pub mates-long : l ≡ laid (matesIn s) old → 4096 ≡ length l
+  unfolding matesIn
+  mates-long e = laid-long (crossing (wordIn s)) e
+
+  pub numbers-long : (K : Family) → l ≡ laid (numbersIn K s) old → 4096 ≡ length l
+  unfolding numbersIn
+  numbers-long K e = laid-long (number (seen K (wordIn s))) e

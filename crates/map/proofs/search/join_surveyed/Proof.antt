@@ -1,5 +1,6 @@
 -- `map::search::join_surveyed` meets its contract. Assumes nothing.
-use Rattle.map.proofs.Joins.{mates-long, numbers-long, found-full}
+use Rattle.surveying.proofs.Laws.{mates-long, numbers-long}
+use Rattle.map.proofs.Joins.{found-full}
 use borrow.Author.Needs.{needs}
 use Rattle.map.proofs.search.join_surveyed.Statement.{statement}
 use Rattle.map.proofs.search.join_surveyed.Tie as tie

@@ -1,0 +1,224 @@
+-- The loop along the walk of an area.
+--
+-- Counting        == what the loop of `count_from` keeps: the sides before position p are counted
+-- own-index, across-index, flag-most, others-fit == there is a flag for the area, and what is stored fits
+-- counting-start, counting-on == at the first side, from one side to the next
+-- counting-end    == after the last
+-- count-start, count-empty == the walk starts at the area's first position; an empty map has no sides
+-- Assumes nothing.
+use mathlib.Core.Path.{_≡_, refl, sym, ap, _∙_}
+use mathlib.Core.Logic.{_≢_, inl, inr}
+use mathlib.Core.Bool.{Bool, true, false, _||_}
+use mathlib.Core.List.{List}
+use Prim.Native.Nat.{ℕ, _+_, _-_, _≤_, _<_}
+use native.Mathlib.Omega.{arith}
+use lib.Dec.{eqb}
+use lib.ListN.{length, getD, set, length-set, replicate, length-replicate, getD-replicate}
+use lib.Seq.{getD-set-same, getD-set-other}
+use borrow.Author.Tests.{eq-eqb, ne-eqb, eqb-true, eqb-false}
+use Rattle.count.specs.Below.{pick}
+use Rattle.count.proofs.Logic.{same-or-not, true-or-false, true-not-false, one-of, either-left, either-right}
+use Rattle.words.specs.Brackets.{Bracket, inner, number, step, first}
+use Rattle.words.specs.declared.family.Family.the-variants.{Square as square}
+use Rattle.words.specs.Word.{seen, crossing}
+use Rattle.words.proofs.Stack.{inner-le}
+use Rattle.words.proofs.Step.{inner-step}
+use Rattle.words.proofs.Numbers.{inner-number, number-inner, number-positive, number-range}
+use Rattle.words.proofs.Order.{walk-rises, walk-returns}
+use Rattle.drawing.specs.Drawing.{Kind}
+use Rattle.drawing.specs.Neighbours.{isAcross, neighbours}
+use Rattle.drawing.proofs.Neighbours.{neighbours-le}
+use Rattle.format.specs.Bytes.{sizeIn, bitsA, wordIn}
+use Rattle.format.specs.Calls.{cellsIn, neighboursIn}
+use Rattle.format.specs.Open.{openRefusal}
+use Rattle.format.proofs.Passes.{opens-passes}
+use Rattle.format.proofs.Openings.{cells-numbers}
+use Rattle.opening.specs.declared.answers.Area.{Area}
+use Rattle.opening.specs.declared.answers.Cell.{Cell}
+use Rattle.walking.specs.Positions.{Position, Numbered}
+use Rattle.walking.proofs.Decoded.{nested}
+use Rattle.walking.proofs.Walks.{Firsts, first-holds}
+use Rattle.neighbouring.specs.Counted.{neighboursAt, Start}
+use Rattle.neighbouring.proofs.Sides.{across-none, neighbours-start, across-kept, across-there, neighbours-met, neighbours-new}
+
+-- a flag: 1 where the test holds
+abbrev flag : Bool → ℕ
+flag t = pick t 1 0
+
+flag-le : (t : Bool) → flag t ≤ 1
+flag-le true = omega arith
+flag-le false = omega arith
+
+neither : (x y : Bool) → x || y ≡ false → (x ≡ false) × (y ≡ false)
+neither true y e = absurd (true-not-false true refl e)
+neither false y e = (refl, e)
+
+module _ (s : List ℕ) (k f : ℕ) where
+  abbrev brackets : ℕ → Bracket
+  brackets = seen square (wordIn s)
+
+  abbrev areaAt : ℕ → ℕ
+  areaAt = number brackets
+
+  abbrev areasOf : ℕ
+  areasOf = cellsIn (sizeIn s) Kind.area
+
+  -- whether area j was met before position p; the area itself always was
+  abbrev metBefore : ℕ → ℕ → Bool
+  metBefore p j = eqb j k || isAcross areaAt (crossing (wordIn s)) p k j
+
+  pub record Counting (p others : ℕ) (met : List ℕ) : Type 0 where
+    pub at : Position s p
+    pub from : Start s k f
+    pub of : inner brackets p ≡ inner brackets f
+    pub long : length met ≡ 2050
+    pub flags : (j : ℕ) → j ≤ areasOf → getD met j 0 ≡ flag (metBefore p j)
+    pub count : others ≡ neighbours areaAt (crossing (wordIn s)) p areasOf k
+
+  areas-most : openRefusal s ≡ 0 → areasOf ≤ 2049
+  areas-most o = omega (arith, opens-passes s o .m-most, opens-passes s o .n-least)
+
+  -- ---- at the first side
+  module _ (S : Start s k f) where
+    pub own-index : k < 2050
+    own-index = omega (arith, S .most, areas-most (S .at .opens))
+
+    none-before : (x : ℕ) → x < f → areaAt x ≢ k
+    none-before x l e =
+        let i = number-inner brackets x f (e ∙ sym (S .area)) in
+        omega (arith, S .itself, inner-le brackets x)
+
+    -- a list of zeros, with the flag of the area itself
+    module _ (l : List ℕ) (long : length l ≡ 2050) (zeros : (i : ℕ) → i < 2050 → getD l i 0 ≡ 0) where
+      own-flag : getD (set l k 1) k 0 ≡ flag (metBefore f k)
+      own-flag =
+          getD-set-same l k 1 0 (omega (arith, own-index))
+          ∙ sym (ap flag (either-left (eqb k k) (isAcross areaAt (crossing (wordIn s)) f k k) (eq-eqb k k refl)))
+
+      begun-flags : (j : ℕ) → j ≤ areasOf → getD (set l k 1) j 0 ≡ flag (metBefore f j)
+      begun-flags j h =
+          elim (same-or-not j k) [
+            | inl e ↦ ap (λ x. getD (set l k 1) x 0) e ∙ own-flag ∙ ap (λ x. flag (metBefore f x)) (sym e)
+            | inr d ↦
+                getD-set-other l k j 1 0 d
+                ∙ zeros j (omega (arith, areas-most (S .at .opens)))
+                ∙ sym (ap flag (ap (λ t. t || isAcross areaAt (crossing (wordIn s)) f k j) (ne-eqb j k d)
+                ∙ across-none areaAt (crossing (wordIn s)) k f none-before j))
+          ]
+
+      counting-begun : Counting f 0 (set l k 1)
+      counting-begun =
+          record {
+            at = S .at;
+            from = S;
+            of = refl;
+            long = length-set l k 1 ∙ long;
+            flags = begun-flags;
+            count = sym (neighbours-start areaAt (crossing (wordIn s)) k f none-before areasOf);
+          }
+
+    pub counting-start : Counting f 0 (set (replicate 2050 0) k 1)
+    counting-start = counting-begun (replicate 2050 0) (length-replicate {A = ℕ} 2050 0) (λ i h. getD-replicate 2050 i 0 0 h)
+
+  -- ---- one side, at position p, with area j across it
+  module _ (p others : ℕ) (met : List ℕ) (C : Counting p others met) (q j : ℕ) (hq : q ≡ crossing (wordIn s) p) (hj : j ≡ areaAt q) where
+    own : areaAt p ≡ k
+    own = inner-number brackets p f (C .of) ∙ C .from .area
+
+    across : areaAt (crossing (wordIn s) p) ≡ j
+    across = ap areaAt (sym hq) ∙ sym hj
+
+    module _ (Q : Position s q) where
+      across-range : (1 ≤ j) × (j ≤ areasOf)
+      across-range = (
+        omega (arith, number-positive brackets q),
+        omega (arith, number-range brackets (bitsA (sizeIn s)) q (Q .below), cells-numbers s Kind.area (Q .opens)),
+      )
+
+      pub across-index : j < 2050
+      across-index = omega (arith, across-range, areas-most (Q .opens))
+
+      met-flag : getD met j 0 ≡ flag (metBefore p j)
+      met-flag = C .flags j (across-range .1)
+
+      pub flag-most : getD met j 0 ≤ 1
+      flag-most = omega (arith, met-flag, flag-le (metBefore p j))
+
+      pub others-fit : others + (1 - getD met j 0) < 18446744073709551616
+      others-fit = omega (arith, C .count, neighbours-le areaAt (crossing (wordIn s)) p areasOf k, areas-most (Q .opens))
+
+      -- no other side lies before position r
+      module _ (r : ℕ) (l : p < r) (gap : (x : ℕ) → p < x → x < r → inner brackets x ≢ inner brackets p) where
+        gap-areas : (x : ℕ) → p < x → x < r → areaAt x ≢ k
+        gap-areas x i h e = gap x i h (number-inner brackets x p (e ∙ sym own))
+
+        more-count : others + (1 - getD met j 0) ≡ neighbours areaAt (crossing (wordIn s)) r areasOf k
+        more-count =
+            let N : ℕ → ℕ = λ x. neighbours areaAt (crossing (wordIn s)) x areasOf k in
+            elim (true-or-false (metBefore p j)) [
+              | inl t ↦
+                  let m : N r ≡ N p = neighbours-met areaAt (crossing (wordIn s)) k p r l own gap-areas areasOf
+                  (elim (one-of (eqb j k) (isAcross areaAt (crossing (wordIn s)) p k j) t) [
+                    | inl e ↦ inl (across ∙ eqb-true j k e)
+                    | inr u ↦ inr (ap (isAcross areaAt (crossing (wordIn s)) p k) across ∙ u)
+                  ]) in
+                  omega (arith, C .count, met-flag ∙ ap flag t)
+              | inr e ↦
+                  let c = neither (eqb j k) (isAcross areaAt (crossing (wordIn s)) p k j) e in
+                  let m : N r ≡ N p + 1 = neighbours-new areaAt (crossing (wordIn s)) k p r l own gap-areas areasOf
+                  (λ y. eqb-false j k (c .0) (sym across ∙ y))
+                  (ap (isAcross areaAt (crossing (wordIn s)) p k) across ∙ c .1)
+                  (omega (arith, across, across-range)) (omega (arith, across, across-range)) in
+                  omega (arith, C .count, met-flag ∙ ap flag e)
+            ]
+
+        more-flags : (i : ℕ) → i ≤ areasOf → getD (set met j 1) i 0 ≡ flag (metBefore r i)
+        more-flags i h =
+            elim (same-or-not i j) [
+              | inl e ↦
+                  ap (λ x. getD (set met j 1) x 0) e
+                  ∙ getD-set-same met j 1 0 (omega (arith, across-index, C .long))
+                  ∙ sym (ap flag (either-right (eqb i k) (isAcross areaAt (crossing (wordIn s)) r k i)
+                  (ap (isAcross areaAt (crossing (wordIn s)) r k) (e ∙ sym across)
+                  ∙ across-there areaAt (crossing (wordIn s)) k p r l own gap-areas)))
+              | inr d ↦
+                  getD-set-other met j i 1 0 d
+                  ∙ C .flags i h
+                  ∙ sym (ap (λ t. flag (eqb i k || t))
+                  (across-kept areaAt (crossing (wordIn s)) k p r l own gap-areas i (λ y. d (sym y ∙ across))))
+            ]
+
+      module _ (r : ℕ) (hr : r ≡ step brackets (bitsA (sizeIn s)) p) where
+        pub counting-on : Position s r → p < r → Counting r (others + (1 - getD met j 0)) (set met j 1)
+        counting-on R l =
+            let bal = nested s square (Q .opens) in
+            let gap : (x : ℕ) → p < x → x < r → inner brackets x ≢ inner brackets p
+            = λ x i h. walk-rises brackets (bitsA (sizeIn s)) bal p (C .at .below) x (omega arith) i (omega arith) in
+            record {
+              at = R;
+              from = C .from;
+              of = ap (inner brackets) hr ∙ inner-step brackets (bitsA (sizeIn s)) bal p (C .at .below) ∙ C .of;
+              long = length-set met j 1 ∙ C .long;
+              flags = more-flags r l gap;
+              count = more-count r l gap;
+            }
+
+        pub counting-end : r ≤ p → others + (1 - getD met j 0) ≡ neighboursAt s k
+        unfolding neighboursIn wordIn
+        counting-end h =
+            let bal = nested s square (Q .opens) in
+            more-count (bitsA (sizeIn s)) (C .at .below)
+            (walk-returns brackets (bitsA (sizeIn s)) bal p (C .at .below) (omega arith) .1)
+
+-- ---- where the walk starts
+module _ (s : List ℕ) (a : Area) (n : ℕ) (hn : n ≡ bitsA (sizeIn s)) (N : Numbered s (Cell.Area a)) where
+  pub count-empty : n ≡ 0 → 0 ≡ neighboursAt s (a .0)
+  unfolding neighboursIn wordIn
+  count-empty z =
+      sym (ap (λ x. neighbours (areaAt s (a .0) 0) (crossing (wordIn s)) x (areasOf s (a .0) 0) (a .0)) (sym hn ∙ z)
+      ∙ neighbours-start (areaAt s (a .0) 0) (crossing (wordIn s)) (a .0) 0 (λ x l. absurd (omega arith)) (areasOf s (a .0) 0))
+
+  pub count-start : (f : ℕ) → (n ≡ 0 → ⊥) → f ≡ first (seen square (wordIn s)) (bitsA (sizeIn s)) (a .0) → Position s f → Start s (a .0) f
+  count-start f m e P =
+      let F : Firsts s square (a .0) f = rw e (first-holds s (Cell.Area a) N (omega arith)) in
+      record { at = P; itself = F .itself; area = F .number; least = N .least; most = N .most }

@@ -1,0 +1,3 @@
+-- The neighbours of an area: laws.
+pub mod Sides
+pub mod Counting

@@ -1,0 +1,72 @@
+-- `neighbouring::across::count_from` meets its contract. The loop keeps `Counting`: the sides before position p are counted. Assumes nothing.
+use Prim.Native.Nat.{_-_}
+use borrow.Author.Needs.{needs}
+use Rattle.format.specs.Bytes.{sizeIn, bitsA}
+use Rattle.neighbouring.proofs.Counting.{Counting, own-index, across-index, flag-most, others-fit, counting-start, counting-on, counting-end}
+use Rattle.neighbouring.proofs.across.count_from.Statement.{statement}
+use Rattle.neighbouring.proofs.across.count_from.Tie as tie
+
+abbrev Inv-loop : tie.InvT-loop
+Inv-loop map mates areas f met₀ own others₀ p₀ met others p = Counting map own f p others met
+
+abbrev μ-loop : tie.MeasureT-loop
+μ-loop map mates areas f met₀ own others₀ p₀ met others p = bitsA (sizeIn map) - p
+
+array-write-met : tie.Need-array-write-met Inv-loop μ-loop
+array-write-met c = search own-index
+
+loop-holds : tie.Need-loop-holds Inv-loop μ-loop
+loop-holds c = counting-start _ _ _ (c .before .before .before .pre .0)
+
+crossing-in-requires : tie.Need-crossing-in-requires Inv-loop μ-loop
+crossing-in-requires c κs = search needs
+
+area-in-requires : tie.Need-area-in-requires Inv-loop μ-loop
+area-in-requires c κs = search needs
+
+array-read-others : tie.Need-array-read-others Inv-loop μ-loop
+array-read-others c = search across-index
+
+sub-others : tie.Need-sub-others Inv-loop μ-loop
+sub-others c = search flag-most
+
+cast-others : tie.Need-cast-others Inv-loop μ-loop
+cast-others c = search needs
+
+add-others : tie.Need-add-others Inv-loop μ-loop
+add-others c = search others-fit
+
+array-write-met-2 : tie.Need-array-write-met-2 Inv-loop μ-loop
+array-write-met-2 c = search across-index
+
+step-in-requires : tie.Need-step-in-requires Inv-loop μ-loop
+step-in-requires c κs = search needs
+
+loop-less : tie.Need-loop-less Inv-loop μ-loop
+loop-less c = search needs
+
+loop-again : tie.Need-loop-again Inv-loop μ-loop
+loop-again c = search counting-on
+
+returns : tie.Need-returns Inv-loop μ-loop
+returns c = search counting-end
+
+pub count-from-spec : {M : Type 1} → statement M
+count-from-spec =
+    tie.close
+    (tie.spec
+    Inv-loop
+    μ-loop
+    array-write-met
+    loop-holds
+    crossing-in-requires
+    area-in-requires
+    array-read-others
+    sub-others
+    cast-others
+    add-others
+    array-write-met-2
+    step-in-requires
+    loop-less
+    loop-again
+    returns)

@@ -1,0 +1,2 @@
+-- The neighbours of an area: definitions.
+pub mod Counted

@@ -1,0 +1,84 @@
+// Counting the other areas across the sides of an area, in one loop along its walk.
+use layout::bits_a;
+use opening::Area;
+use opening::Cell;
+use sizing::size_at;
+use surveying::area_in;
+use surveying::crossing_in;
+use surveying::step_in;
+use surveying::survey;
+use walking::first_at;
+use words::Family;
+ghost use mathlib.Core.Path.{_≡_};
+ghost use Rattle.words.specs.declared.family.Family.the-variants.{Square as square};
+ghost use Rattle.format.specs.Bytes.{sizeIn, wordIn};
+ghost use Rattle.opening.specs.declared.answers.Cell.{Cell};
+ghost use Rattle.surveying.specs.Surveyed.{Mates, Numbers};
+ghost use Rattle.walking.specs.Positions.{Numbered};
+ghost use Rattle.neighbouring.specs.Counted.{neighboursAt, Start};
+
+// Places that are surveyed in the time of looking at one by walking, as measured on many maps in turn.
+const WALK: usize = 64;
+
+// Places that are looked at by walking in the time that the survey of a small map takes.
+const LEAST: usize = 12;
+
+// One flag for each of the most areas that a map has, 2,049, and none for 0.
+const FLAGS: usize = 2050;
+
+// How many other areas lie across the sides of an area; an empty map has no sides.
+pub fn neighbours_at(map: &[u8], area: Area) -> usize
+    requires { ⌜ Numbered (now map) (Cell.Area area) ⌝ }
+    ensures { λ r. ⌜ r ≡ neighboursAt (now (map .entry)) (area .0) ⌝ }
+{
+    let n = bits_a(map);
+    if n == 0 {
+        return 0;
+    }
+    let cell = Cell::Area(area);
+    let f = first_at(map, cell);
+    if size_at(map, cell) < n / WALK + LEAST {
+        let none = [0u16; 0];
+        count_from(map, &none, &none, area, f)
+    } else {
+        count_surveyed(map, area, f)
+    }
+}
+
+// The same, looked up in lists of the whole map.
+fn count_surveyed(map: &[u8], area: Area, f: usize) -> usize
+    requires { ⌜ Start (now map) (area .0) f ⌝ }
+    ensures { λ r. ⌜ r ≡ neighboursAt (now (map .entry)) (area .0) ⌝ }
+{
+    let mut mates = [0u16; 4096];
+    let mut areas = [0u16; 4096];
+    let mut points = [0u16; 4096];
+    survey(map, &mut mates, &mut areas, &mut points);
+    count_from(map, &mates, &areas, area, f)
+}
+
+// Along the area's walk, from its first position f: each side leads across to an area, which counts unless it was met before.
+// The area itself counts as met from the beginning. The walk leads to higher positions until the area's last.
+fn count_from(map: &[u8], mates: &[u16], areas: &[u16], area: Area, f: usize) -> usize
+    requires { ⌜ Start (now map) (area .0) f × Mates (now map) (now mates) × Numbers square (now map) (now areas) ⌝ }
+    ensures { λ r. ⌜ r ≡ neighboursAt (now (map .entry)) (area .0) ⌝ }
+{
+    let mut met = [0u8; FLAGS];
+    let own = area.0;
+    met[own] = 1;
+    let mut others = 0;
+    let mut p = f;
+    loop {
+        let q = crossing_in(map, mates, p);
+        let across = area_in(map, areas, q);
+        let k = across.0;
+        others += (1 - met[k]) as usize;
+        met[k] = 1;
+        let r = step_in(map, mates, Family::Square, p);
+        if r <= p {
+            break;
+        }
+        p = r;
+    }
+    others
+}
