@@ -1,8 +1,6 @@
 // Times every call of the C interface beside plain alternatives, on the same maps in one run, and checks that all agree.
 #include <algorithm>
 #include <cstdio>
-#include <functional>
-#include <string>
 
 #include "calls.h"
 #include "maps.h"
@@ -238,11 +236,6 @@ void show_neighbours(size_t m)
 }
 
 // All that is proved, each as a task on maps.
-struct grown {
-    const char *name;
-    std::function<task(const maps &)> make;
-};
-
 std::vector<grown> all_grown()
 {
     std::vector<grown> list;
@@ -253,77 +246,6 @@ std::vector<grown> all_grown()
     list.push_back({ "unpack", unpack_task });
     list.push_back({ "schedule", schedule_task });
     return list;
-}
-
-const std::vector<size_t> sizes = { 16, 128, 1024, 2048 };
-
-// One row of a growth table: what it is, and its times on every kind of map of the first size, then of the next.
-struct growth {
-    const char *name;
-    std::vector<double> times;
-
-    double at(size_t size, int k) const { return times[size * KINDS + k]; }
-
-    int slowest(size_t size) const
-    {
-        auto from = times.begin() + size * KINDS;
-        return int(std::max_element(from, from + KINDS) - from);
-    }
-};
-
-std::vector<growth> measure_growth()
-{
-    std::vector<maps> sets;
-    for (size_t m : sizes)
-        for (int k = 0; k < KINDS; k++)
-            sets.push_back(make_maps(kind(k), m));
-    std::vector<growth> rows;
-    for (const grown &g : all_grown()) {
-        std::vector<task> tasks;
-        for (const maps &all : sets)
-            tasks.push_back(g.make(all));
-        rows.push_back({ g.name, measure(tasks) });
-    }
-    return rows;
-}
-
-void show_growth_heads(const char *title, int width)
-{
-    std::printf("\n%s; at the end: 2048 beside 1024\n%-22s", title, "borders");
-    for (size_t m : sizes)
-        std::printf(" %10zu%*s", m, width, "");
-    std::printf("\n");
-}
-
-void show_on_kind(const char *name, const growth &g, int k)
-{
-    std::printf("%-22s", name);
-    for (size_t s = 0; s < sizes.size(); s++)
-        std::printf(" %10.0f", g.at(s, k));
-    std::printf(" %8.2f x\n", g.at(3, k) / g.at(2, k));
-}
-
-void show_on_slowest(const growth &g)
-{
-    std::printf("%-22s", g.name);
-    for (size_t s = 0; s < sizes.size(); s++)
-        std::printf(" %10.0f %-9s", g.at(s, g.slowest(s)), kind_names[g.slowest(s)]);
-    std::printf(" %8.2f x\n", g.at(3, g.slowest(3)) / g.at(2, g.slowest(2)));
-}
-
-// How the times grow with m: on random maps, and on the kind of map that is slowest at each size.
-void show_growth()
-{
-    const std::vector<growth> rows = measure_growth();
-    show_growth_heads("growth: the proved call, in ns, on random maps", 0);
-    for (const growth &g : rows) {
-        show_on_kind(g.name, g, RANDOM);
-        if (g.name == std::string("joining, longest"))
-            show_on_kind("joining, whole star", g, STAR);
-    }
-    show_growth_heads("growth: the proved call, in ns, on the slowest kind of map at each size", 10);
-    for (const growth &g : rows)
-        show_on_slowest(g);
 }
 
 }  // namespace
@@ -349,6 +271,6 @@ int main()
     show_packing(2048);
     show_unpacking(2048);
     show_schedules(2048);
-    show_growth();
+    show_growth(all_grown());
     return 0;
 }

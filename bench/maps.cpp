@@ -5,8 +5,8 @@
 //   triangles   points put into triangles one after another, as a survey refines areas; a spanning tree by breadth
 //   star        one point with m borders to m others: a point of degree m
 //   path        m borders one after the other
-//   tree        a random tree: one area, with 2m sides in an order that can't be foreseen
-//   looped tree n = m/2: a random tree with loops side by side among its places: one area with most sides and most neighbours
+//   tree        a random tree: one area, with 2m sides
+//   mixed       n = m/2: a random tree and the other borders side by side, mixed at random: area 1 has a neighbour for each of them
 #include "maps.h"
 
 #include <algorithm>
@@ -14,7 +14,7 @@
 
 #include "calls.h"
 
-const char *const kind_names[ALL_KINDS] = { "random", "loops", "nests", "triangles", "star", "path", "tree", "looped tree" };
+const char *const kind_names[ALL_KINDS] = { "random", "loops", "nests", "triangles", "star", "path", "tree", "mixed" };
 
 static uint64_t state = 88172645463325252ull;
 
@@ -150,7 +150,7 @@ static drawing triangulate(size_t m)
 
 std::vector<uint8_t> make_map(kind k, size_t m)
 {
-    if (k == RANDOM || k == LOOPED_TREE) {
+    if (k == RANDOM || k == MIXED) {
         size_t n = m / 2;
         return assemble(m, mixed(2 * n - 2, 2 * m), balanced(n - 1), k == RANDOM ? balanced(m + 1 - n) : side_by_side(m + 1 - n));
     }

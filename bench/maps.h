@@ -13,7 +13,7 @@ struct drawing {
 };
 
 // The kinds below KINDS are those of every table. The others are for the neighbours of their largest area.
-enum kind { RANDOM, LOOPS, NESTS, TRIANGLES, STAR, PATH, KINDS, TREE = KINDS, LOOPED_TREE, ALL_KINDS };
+enum kind { RANDOM, LOOPS, NESTS, TRIANGLES, STAR, PATH, KINDS, TREE = KINDS, MIXED, ALL_KINDS };
 extern const char *const kind_names[ALL_KINDS];
 
 size_t below(size_t bound);  // a random number below `bound`, the same in every run
