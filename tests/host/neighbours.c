@@ -82,7 +82,7 @@ static const struct {
         const char *kinds;
         size_t times;
     } parts[4];
-    struct counts first, second, last;
+    struct counts first, second, last; /* no second where the first is the last */
 } large[] = {
     {{{"()", 2048}}, {4096, 0}, {0, 0}, {4096, 0}},                               /* a star: one area */
     {{{"(", 2048}, {")", 2048}}, {4096, 0}, {0, 0}, {4096, 0}},                   /* a path: one area */
@@ -115,7 +115,8 @@ void known_neighbours(int every_area)
     size_t i;
     for (i = 0; i < sizeof known / sizeof *known; i++) known_map(known[i].kinds, known[i].of);
     card_of_kinds(&card, FIGURE_1);
-    expect(card.length == sizeof figure_1 && memcmp(card.bytes, figure_1, card.length) == 0, "Figure 1", "is another map than these kinds give");
+    expect(card.length == sizeof figure_1 && memcmp(card.bytes, figure_1, card.length) == 0, "Figure 1",
+           "is another map than these kinds give");
     for (i = 0; i < sizeof large / sizeof *large; i++) large_map(i, every_area);
     part_ends("sides and neighbours known by hand");
 }
@@ -146,7 +147,8 @@ static void compare_across(void)
         across[side_of[place]][other_of[place]] = 1;
     }
     for (place = 1; place <= 2 * (size_t)m; place++)
-        expect(across[other_of[place]][side_of[place]], "pmap_cross", "an area is across a side of another, but not the other way round");
+        expect(across[other_of[place]][side_of[place]], "pmap_cross",
+               "an area is across a side of another, but not the other way round");
     for (k = 1; k <= areas; k++) {
         size_t count = 0;
         for (j = 1; j <= areas; j++) count += j != k && across[k][j];
