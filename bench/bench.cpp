@@ -1,8 +1,6 @@
 // Times every call of the C interface beside plain alternatives, on the same maps in one run, and checks that all agree.
 #include <algorithm>
 #include <cstdio>
-#include <functional>
-#include <string>
 
 #include "calls.h"
 #include "maps.h"
@@ -21,7 +19,7 @@ const struct calls proved_calls = {
 
 // A call by its index in call_names.
 const char *const call_names[NUMBER_CALLS + 2] = { "open", "cross", "turn", "turn back", "along", "point", "area", "point first", "degree", "area first", "sides", "neighbours", "joining" };
-const size_t DEGREE = 8, SIDES = 10, JOINING = NUMBER_CALLS + 1;
+const size_t DEGREE = 8, SIDES = 10, NEIGHBOURS = 11, JOINING = NUMBER_CALLS + 1;
 
 std::vector<const struct calls *> compared;  // the proved calls first
 
@@ -74,6 +72,12 @@ std::vector<asked> largest(size_t call, const bytes &map)
     return { most };
 }
 
+// The area with most sides, whatever is asked of it.
+std::vector<asked> most_sides(size_t, const bytes &map)
+{
+    return largest(SIDES, map);
+}
+
 // The joining border at its worst: about the point of greatest degree, where the search goes once round and finds none, if
 // there is such a second point, or else where it finds one late.
 std::vector<asked> longest(size_t call, const bytes &map)
@@ -99,6 +103,7 @@ std::vector<row> call_rows()
         rows.push_back({ call_names[call], call, at_random });
     rows.push_back({ "degree, largest", DEGREE, largest });
     rows.push_back({ "sides, largest", SIDES, largest });
+    rows.push_back({ "neighbours, largest", NEIGHBOURS, most_sides });
     rows.push_back({ "joining, longest", JOINING, longest });
     return rows;
 }
@@ -124,15 +129,25 @@ task call_task(const struct calls &whose, size_t call, const maps &all, const st
              all.size() * lists[0].size() };
 }
 
+bool call_agrees(size_t call, const bytes &map, const std::vector<asked> &list)
+{
+    for (asked q : list)
+        for (const struct calls *c : compared)
+            if (ask(*c, call, map, q) != ask(proved_calls, call, map, q)) {
+                std::printf("%s of %zu, %zu: %s differs from %s\n", call_names[call], q.u, q.v, c->name, proved_calls.name);
+                return false;
+            }
+    return true;
+}
+
 bool calls_agree(const bytes &map)
 {
     for (size_t call = 0; call <= JOINING; call++)
-        for (asked q : questions(call, map, 300, true))
-            for (const struct calls *c : compared)
-                if (ask(*c, call, map, q) != ask(proved_calls, call, map, q)) {
-                    std::printf("%s of %zu, %zu: %s differs from %s\n", call_names[call], q.u, q.v, c->name, proved_calls.name);
-                    return false;
-                }
+        if (!call_agrees(call, map, questions(call, map, 300, true)))
+            return false;
+    for (const row &r : call_rows())
+        if (!call_agrees(r.call, map, r.about(r.call, map)))
+            return false;
     return true;
 }
 
@@ -155,20 +170,30 @@ line compare(const row &r, const maps &all)
     return l;
 }
 
-void show_heads()
+void show_others()
 {
-    std::printf("%-22s %12s", "", "proved, ns");
     for (size_t i = 1; i < compared.size(); i++)
         std::printf(" %14s", compared[i]->name);
     std::printf("\n");
 }
 
-void show(const char *name, const line &l)
+void show_ratios(const line &l)
 {
-    std::printf("%-22s %12.0f", name, l.proved);
     for (double r : l.ratio)
         show_ratio(r);
     std::printf("\n");
+}
+
+void show_heads()
+{
+    std::printf("%-22s %12s", "", "proved, ns");
+    show_others();
+}
+
+void show(const char *name, const line &l)
+{
+    std::printf("%-22s %12.0f", name, l.proved);
+    show_ratios(l);
 }
 
 // Every call on every kind of map with m borders; the slowest time and the least ratios of each call at the end.
@@ -196,12 +221,21 @@ void compare_all(size_t m)
         show(rows[i].name, worst[i]);
 }
 
-// All that is proved, each as a task on maps.
-struct grown {
-    const char *name;
-    std::function<task(const maps &)> make;
-};
+// The neighbours of the area with most sides, on every kind of map; beside the kind, how many the area has on the first map.
+void show_neighbours(size_t m)
+{
+    std::printf("\nneighbours of the largest area, %zu borders\n%-12s %9s %12s %12s", m, "", "sides", "neighbours", "proved, us");
+    show_others();
+    for (int k = 0; k < ALL_KINDS; k++) {
+        maps all = make_maps(kind(k), m);
+        asked q = most_sides(NEIGHBOURS, all[0])[0];
+        line l = compare({ "", NEIGHBOURS, most_sides }, all);
+        std::printf("%-12s %9d %12d %12.1f", kind_names[k], int(ask(proved_calls, SIDES, all[0], q)), int(ask(proved_calls, NEIGHBOURS, all[0], q)), l.proved / 1000);
+        show_ratios(l);
+    }
+}
 
+// All that is proved, each as a task on maps.
 std::vector<grown> all_grown()
 {
     std::vector<grown> list;
@@ -214,77 +248,6 @@ std::vector<grown> all_grown()
     return list;
 }
 
-const std::vector<size_t> sizes = { 16, 128, 1024, 2048 };
-
-// One row of a growth table: what it is, and its times on every kind of map of the first size, then of the next.
-struct growth {
-    const char *name;
-    std::vector<double> times;
-
-    double at(size_t size, int k) const { return times[size * KINDS + k]; }
-
-    int slowest(size_t size) const
-    {
-        auto from = times.begin() + size * KINDS;
-        return int(std::max_element(from, from + KINDS) - from);
-    }
-};
-
-std::vector<growth> measure_growth()
-{
-    std::vector<maps> sets;
-    for (size_t m : sizes)
-        for (int k = 0; k < KINDS; k++)
-            sets.push_back(make_maps(kind(k), m));
-    std::vector<growth> rows;
-    for (const grown &g : all_grown()) {
-        std::vector<task> tasks;
-        for (const maps &all : sets)
-            tasks.push_back(g.make(all));
-        rows.push_back({ g.name, measure(tasks) });
-    }
-    return rows;
-}
-
-void show_growth_heads(const char *title, int width)
-{
-    std::printf("\n%s; at the end: 2048 beside 1024\n%-22s", title, "borders");
-    for (size_t m : sizes)
-        std::printf(" %10zu%*s", m, width, "");
-    std::printf("\n");
-}
-
-void show_on_kind(const char *name, const growth &g, int k)
-{
-    std::printf("%-22s", name);
-    for (size_t s = 0; s < sizes.size(); s++)
-        std::printf(" %10.0f", g.at(s, k));
-    std::printf(" %8.2f x\n", g.at(3, k) / g.at(2, k));
-}
-
-void show_on_slowest(const growth &g)
-{
-    std::printf("%-22s", g.name);
-    for (size_t s = 0; s < sizes.size(); s++)
-        std::printf(" %10.0f %-9s", g.at(s, g.slowest(s)), kind_names[g.slowest(s)]);
-    std::printf(" %8.2f x\n", g.at(3, g.slowest(3)) / g.at(2, g.slowest(2)));
-}
-
-// How the times grow with m: on random maps, and on the kind of map that is slowest at each size.
-void show_growth()
-{
-    const std::vector<growth> rows = measure_growth();
-    show_growth_heads("growth: the proved call, in ns, on random maps", 0);
-    for (const growth &g : rows) {
-        show_on_kind(g.name, g, RANDOM);
-        if (g.name == std::string("joining, longest"))
-            show_on_kind("joining, whole star", g, STAR);
-    }
-    show_growth_heads("growth: the proved call, in ns, on the slowest kind of map at each size", 10);
-    for (const growth &g : rows)
-        show_on_slowest(g);
-}
-
 }  // namespace
 
 int main()
@@ -294,19 +257,20 @@ int main()
     compared.push_back(&succinct_calls);
 #endif
     for (size_t m : { 16, 128, 1024, 2048 })
-        for (int k = 0; k < KINDS; k++) {
+        for (int k = 0; k < ALL_KINDS; k++) {
             bytes map = make_map(kind(k), m);
             if (!calls_agree(map) || !sessions_agree(map) || !unpacking_agrees(map) || !schedules_agree(map))
                 return 1;
         }
-    std::printf("all agree on every answer: %d kinds of maps, 16 to 2,048 borders, %d calls, 300 questions each; sessions of 300 calls; unpacking; schedules; refusals of each\n", KINDS, NUMBER_CALLS + 2);
+    std::printf("all agree on every answer: %d kinds of maps, 16 to 2,048 borders, %d calls, 300 questions each; sessions of 300 calls; unpacking; schedules; refusals of each\n", ALL_KINDS, NUMBER_CALLS + 2);
     for (size_t m : { 16, 128, 2048 })
         compare_all(m);
+    show_neighbours(2048);
     show_sessions(2048, 1000);
     show_short_sessions();
     show_packing(2048);
     show_unpacking(2048);
     show_schedules(2048);
-    show_growth();
+    show_growth(all_grown());
     return 0;
 }

@@ -153,6 +153,36 @@ static size_t step(const struct strings *x, int v, size_t p)
     return q < x->places ? q : 0;
 }
 
+/* The other areas across a side of area k, in one reading of the strings. */
+static size_t touching(const struct strings *x, size_t k)
+{
+    uint16_t opened_in[2][2048], area = 1, last = 1; /* of each border that is open, the area of its first place */
+    uint8_t met[2050] = { 0 };
+    size_t depth[2] = { 0, 0 }, at[2] = { 0, 0 }, found = 0, p;
+
+    met[k] = 1;
+    for (p = 0; p < x->places; p++) {
+        int v = bit(x->a, p);
+        uint16_t here = area, across;
+
+        if (!bit(x->b[v], at[v]++)) {
+            opened_in[v][depth[v]++] = area;
+            if (v == 0)
+                area = ++last;
+            continue;
+        }
+        across = opened_in[v][--depth[v]];
+        if (v == 0)
+            area = across;
+        if (here == k || across == k) {
+            uint16_t other = here == k ? across : here;
+            found += !met[other];
+            met[other] = 1;
+        }
+    }
+    return found;
+}
+
 static size_t turn(const struct strings *x, size_t p)
 {
     size_t q = mate(x, 1, p);
@@ -180,6 +210,7 @@ CELL_CALL(point_first, struct strings, refuse, x.n, 14, first(&x, 1, k) + 1)
 CELL_CALL(degree, struct strings, refuse, x.n, 14, size(&x, 1, k))
 CELL_CALL(area_first, struct strings, refuse, x.m - x.n + 2, 15, first(&x, 0, k) + 1)
 CELL_CALL(sides, struct strings, refuse, x.m - x.n + 2, 15, size(&x, 0, k))
+CELL_CALL(neighbours, struct strings, refuse, x.m - x.n + 2, 15, touching(&x, k))
 
 static uint8_t joining(const uint8_t *map, size_t length, size_t u, size_t v, uint16_t *out)
 {
@@ -206,5 +237,5 @@ static uint8_t joining(const uint8_t *map, size_t length, size_t u, size_t v, ui
 }
 
 const struct calls bitwise_calls = {
-    "bit by bit", open, { cross, turn_call, turn_back_call, along, point, area, point_first, degree, area_first, sides, sides }, joining
+    "bit by bit", open, { cross, turn_call, turn_back_call, along, point, area, point_first, degree, area_first, sides, neighbours }, joining
 };

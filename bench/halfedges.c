@@ -105,6 +105,22 @@ static size_t turn_back(const struct arrays *x, size_t p)
     return q < p ? q + 1 : 0;
 }
 
+/* The other areas across a side of area k, once along its walk. */
+static size_t touching(const struct arrays *x, size_t k)
+{
+    uint8_t met[MOST / 2 + 2] = { 0 };
+    size_t p = x->first[0][k], found = 0, left;
+
+    met[k] = 1;
+    for (left = x->size[0][k]; left > 0; left--) {
+        uint16_t across = x->cell[0][x->mate[p]];
+        found += !met[across];
+        met[across] = 1;
+        p = x->step[0][p];
+    }
+    return found;
+}
+
 OPEN_CALL(open, struct arrays, build)
 
 PLACE_CALL(cross, struct arrays, build, x.mate[p] + 1)
@@ -118,6 +134,7 @@ CELL_CALL(point_first, struct arrays, build, x.n, 14, x.first[1][k] + 1)
 CELL_CALL(degree, struct arrays, build, x.n, 14, x.size[1][k])
 CELL_CALL(area_first, struct arrays, build, x.m - x.n + 2, 15, x.first[0][k] + 1)
 CELL_CALL(sides, struct arrays, build, x.m - x.n + 2, 15, x.size[0][k])
+CELL_CALL(neighbours, struct arrays, build, x.m - x.n + 2, 15, touching(&x, k))
 
 static uint8_t joining(const uint8_t *map, size_t length, size_t u, size_t v, uint16_t *out)
 {
@@ -226,5 +243,5 @@ size_t halfedge_schedule(const uint8_t *map, size_t length, uint8_t *out)
 }
 
 const struct calls halfedge_calls = {
-    "half-edges", open, { cross, turn_call, turn_back_call, along, point, area, point_first, degree, area_first, sides, sides }, joining
+    "half-edges", open, { cross, turn_call, turn_back_call, along, point, area, point_first, degree, area_first, sides, neighbours }, joining
 };

@@ -5,6 +5,8 @@
 //   triangles   points put into triangles one after another, as a survey refines areas; a spanning tree by breadth
 //   star        one point with m borders to m others: a point of degree m
 //   path        m borders one after the other
+//   tree        a random tree: one area, with 2m sides
+//   mixed       n = m/2: a random tree and the other borders side by side, mixed at random: area 1 has a neighbour for each of them
 #include "maps.h"
 
 #include <algorithm>
@@ -12,7 +14,7 @@
 
 #include "calls.h"
 
-const char *const kind_names[KINDS] = { "random", "loops", "nests", "triangles", "star", "path" };
+const char *const kind_names[ALL_KINDS] = { "random", "loops", "nests", "triangles", "star", "path", "tree", "mixed" };
 
 static uint64_t state = 88172645463325252ull;
 
@@ -148,10 +150,12 @@ static drawing triangulate(size_t m)
 
 std::vector<uint8_t> make_map(kind k, size_t m)
 {
-    if (k == RANDOM) {
+    if (k == RANDOM || k == MIXED) {
         size_t n = m / 2;
-        return assemble(m, mixed(2 * n - 2, 2 * m), balanced(n - 1), balanced(m + 1 - n));
+        return assemble(m, mixed(2 * n - 2, 2 * m), balanced(n - 1), k == RANDOM ? balanced(m + 1 - n) : side_by_side(m + 1 - n));
     }
+    if (k == TREE)
+        return assemble(m, std::vector<bool>(2 * m, true), balanced(m), {});
     if (k == LOOPS)
         return assemble(m, std::vector<bool>(2 * m), {}, side_by_side(m));
     if (k == STAR)

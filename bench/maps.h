@@ -1,4 +1,4 @@
-// Maps to measure on: six kinds, of any number of borders.
+// Maps to measure on: six kinds, and two more with one large area, of any number of borders.
 #ifndef MAPS_H
 #define MAPS_H
 
@@ -12,8 +12,9 @@ struct drawing {
     std::vector<uint8_t> marks;
 };
 
-enum kind { RANDOM, LOOPS, NESTS, TRIANGLES, STAR, PATH, KINDS };
-extern const char *const kind_names[KINDS];
+// The kinds below KINDS are those of every table. The others are for the neighbours of their largest area.
+enum kind { RANDOM, LOOPS, NESTS, TRIANGLES, STAR, PATH, KINDS, TREE = KINDS, MIXED, ALL_KINDS };
+extern const char *const kind_names[ALL_KINDS];
 
 size_t below(size_t bound);  // a random number below `bound`, the same in every run
 

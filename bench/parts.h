@@ -1,9 +1,11 @@
-// What the parts of the bench offer each other: sessions, packing and unpacking, schedules. The calls on a map are in bench.cpp.
+// What the parts of the bench offer each other: sessions, packing and unpacking, schedules, growth. The calls on a map are in
+// bench.cpp.
 #ifndef PARTS_H
 #define PARTS_H
 
 #include <cstddef>
 #include <cstdint>
+#include <functional>
 #include <vector>
 
 #include "timing.h"
@@ -28,5 +30,12 @@ void show_short_sessions();
 void show_packing(size_t m);
 void show_unpacking(size_t m);
 void show_schedules(size_t m);
+
+// How the times of what is proved grow with m: on random maps, and on the kind of map that is slowest at each size.
+struct grown {
+    const char *name;
+    std::function<task(const maps &)> make;
+};
+void show_growth(const std::vector<grown> &list);
 
 #endif

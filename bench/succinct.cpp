@@ -3,6 +3,7 @@
 #include <sdsl/bp_support_sada.hpp>
 #include <sdsl/rank_support_v5.hpp>
 #include <sdsl/select_support_mcl.hpp>
+#include <vector>
 
 #include "calls.h"
 
@@ -124,6 +125,21 @@ size_t size(const structures &x, int v, size_t k)
     return found;
 }
 
+// The other areas across a side of area k, once along its walk.
+size_t touching(const structures &x, int v, size_t k)
+{
+    std::vector<bool> met(x.m - x.n + 3);
+    size_t f = first(x, v, k), p = f, found = 0;
+    met[k] = true;
+    do {
+        size_t across = number(x, v, mate(x, x.of[1].at[p], p));
+        found += !met[across];
+        met[across] = true;
+        p = step(x, v, p);
+    } while (p != f);
+    return found;
+}
+
 size_t turn(const structures &x, size_t p)
 {
     size_t q = mate(x, 1, p);
@@ -228,6 +244,11 @@ static uint8_t sides(const uint8_t *map, size_t length, size_t k, uint16_t *out)
     return cell_call(map, length, 0, k, out, size);
 }
 
+static uint8_t neighbours(const uint8_t *map, size_t length, size_t k, uint16_t *out)
+{
+    return cell_call(map, length, 0, k, out, touching);
+}
+
 static uint8_t joining(const uint8_t *map, size_t length, size_t u, size_t v, uint16_t *out)
 {
     structures x;
@@ -251,6 +272,6 @@ static uint8_t joining(const uint8_t *map, size_t length, size_t u, size_t v, ui
 }
 
 extern const struct calls succinct_calls = {
-    "sdsl", open_it, { cross, turn_call, turn_back_call, along, point, area, point_first, degree, area_first, sides, sides }, joining
+    "sdsl", open_it, { cross, turn_call, turn_back_call, along, point, area, point_first, degree, area_first, sides, neighbours }, joining
 };
 }

@@ -3,9 +3,10 @@
  *
  *     quote CARD AREA
  *
- * CARD is a file with the bytes of a packed map, AREA an area number from 1. One line for each side of the area goes to
- * standard output. What is wrong with a card or a number, and that the output can't be written, goes to standard error, and
- * the exit status is then 1; it is 2 if the box was not asked properly.
+ * CARD is a file with the bytes of a packed map, AREA an area number from 1. To standard output goes a line with the numbers of
+ * the area's sides and of its neighbours, which are the other areas across a side, each counted once; then one line for each
+ * side. What is wrong with a card or a number, and that the output can't be written, goes to standard error, and the exit status
+ * is then 1; it is 2 if the box was not asked properly.
  */
 #include <errno.h>
 #include <stdio.h>
@@ -124,7 +125,7 @@ int main(int argc, char **argv)
     static struct card card;
     const char *path;
     size_t area;
-    uint16_t m, n, sides, first;
+    uint16_t m, n, sides, neighbours, first;
 
     if (argc != 3) {
         fprintf(stderr, "usage: quote CARD AREA\n");
@@ -136,8 +137,9 @@ int main(int argc, char **argv)
 
     stop_if_refused(path, pmap_open(card.bytes, card.length, &m, &n));
     stop_if_refused(path, pmap_sides(card.bytes, card.length, area, &sides));
+    stop_if_refused(path, pmap_neighbours(card.bytes, card.length, area, &neighbours));
     stop_if_refused(path, pmap_area_first(card.bytes, card.length, area, &first));
-    printf("area %zu of %u, sides: %u\n", area, (unsigned)m - n + 2, (unsigned)sides);
+    printf("area %zu of %u, sides: %u, neighbours: %u\n", area, (unsigned)m - n + 2, (unsigned)sides, (unsigned)neighbours);
 
     if (first == 0)
         printf("the map has no borders\n");

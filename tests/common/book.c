@@ -187,10 +187,17 @@ struct reply book_sides(const struct book *b, size_t area)
     return answer(b->sides[area]);
 }
 
-/* "An area's neighbour count is its number of sides." */
+/* Request 3/14: "The area across a side is the area of its crossing. The neighbour count becomes the number of other areas across
+   at least one side." */
 struct reply book_neighbours(const struct book *b, size_t area)
 {
-    return book_sides(b, area);
+    uint8_t across[MOST_BORDERS + 2] = {0};
+    size_t h, k, count = 0;
+    if (!is_area(b, area)) return refused(15);
+    for (h = 0; h < 2 * b->drawing->m; h++)
+        if (b->area_of[h] == area) across[b->area_of[other(h)]] = 1;
+    for (k = 1; k <= b->areas; k++) count += k != area && across[k];
+    return answer(count);
 }
 
 /* "once round from the first place of u" */

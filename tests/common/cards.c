@@ -88,6 +88,21 @@ void card_of_strings(struct card *card, size_t m, size_t n, uint64_t strings)
     }
 }
 
+void card_of_kinds(struct card *card, const char *kinds)
+{
+    size_t places = strlen(kinds), marked = 0, at[2] = {0, 0}, i;
+    uint8_t *a = card->bytes + 4, *b = a + bytes_of(places), *b_star;
+
+    for (i = 0; i < places; i++) marked += strchr("()", kinds[i]) != NULL;
+    b_star = b + bytes_of(marked);
+    put_header(card, places / 2, marked / 2 + 1);
+    for (i = 0; i < places; i++) {
+        int round = strchr("()", kinds[i]) != NULL;
+        put_bit(a, i, (unsigned)round);
+        put_bit(round ? b : b_star, at[round]++, strchr(")]", kinds[i]) != NULL);
+    }
+}
+
 void renumber(const struct drawing *d, struct drawing *renumbered)
 {
     static size_t border[MOST_BORDERS], end[MOST_ENDS];

@@ -1,4 +1,5 @@
-/* Cards for the test program: random ones of a given size, all strings of a size, and a random source of its own. */
+/* Cards for the test program: random ones of a given size, by their strings or by the kinds of their places, and a random source
+   of its own. */
 #ifndef CARDS_H
 #define CARDS_H
 
@@ -22,6 +23,9 @@ void random_card(struct card *card, size_t m, size_t n, unsigned lean);
 
 /* A card of the right length with unused bits 0, whose strings are the bits of `strings`: A, then B, then B*. */
 void card_of_strings(struct card *card, size_t m, size_t n, uint64_t strings);
+
+/* A card by the kinds of its places in order, as a listing has them: ( and ) of marked borders, [ and ] of the others. */
+void card_of_kinds(struct card *card, const char *kinds);
 
 /* The same drawing with its borders renumbered by chance, some of them turned round, and another start. */
 void renumber(const struct drawing *d, struct drawing *renumbered);

@@ -1,9 +1,9 @@
 /*
  * Document 01 once more, from the drawing's side: what is wrong with a drawing or with a card, the drawing that bytes unpack
- * to, and the drawing's book with its sessions; and the crossing that request 2/14 of document 02 fixes. Written from the
- * documents alone, and the codes of calls from include/pmap.h, so that the library can be compared with it; slow and plain on
- * purpose, and where there is a choice not in the library's way: marks are followed by merging points, the crossing of 7 is
- * looked for among all pairs.
+ * to, and the drawing's book with its sessions; and of document 02 the crossing that request 2/14 fixes and the neighbours as
+ * request 3/14 counts them. Written from the documents alone, and the codes of calls from include/pmap.h, so that the library can
+ * be compared with it; slow and plain on purpose, and where there is a choice not in the library's way: marks are followed by
+ * merging points, the crossing of 7 is looked for among all pairs, the sides of an area among all ends.
  */
 #ifndef REFERENCE_H
 #define REFERENCE_H

@@ -83,13 +83,43 @@ static struct reply changed_area(struct reply r, size_t k)
     return r;
 }
 
+/* Whether a side counts: the area across it was met before or not, the side before has `last` across it. */
+static int counts(size_t area, size_t across, size_t last, int met)
+{
+    if (FAULT == 151) return !met;                                     /* the area itself, where it is across */
+    if (FAULT == 152) return 1;                                        /* each side: the rule before request 3/14 */
+    if (FAULT == 153) return across != area;                           /* each border to another area */
+    if (FAULT == 154) return across != area && across != last;         /* an area again after another one */
+    if (FAULT == 155) return across != area && !met && across != 1;    /* area 1 never */
+    if (FAULT == 156) return across != area && !met && across != 2049; /* the last area of 2,048 loops never */
+    return across != area && !met;
+}
+
+/* Along the walk, and not as the book counts. */
+static struct reply changed_neighbours(struct reply r, size_t k)
+{
+    uint8_t met[MOST_BORDERS + 2] = {0};
+    size_t area = number(k), place, left, last = 0;
+    if (r.status != 0) return r;
+    place = book.area_first[area];
+    r.value = 0;
+    for (left = book.sides[area]; left > 0; left--) {
+        size_t across = book_area(&book, book_cross(&book, place).value).value;
+        if (FAULT == 157) across = area; /* the area of the side for the one across it */
+        r.value += (size_t)counts(area, across, last, met[across]);
+        met[across] = 1;
+        last = across;
+        place = book_along(&book, place).value;
+    }
+    return r;
+}
+
 #define changed_turn_back(r, k) (r)
 #define changed_point(r, k) (r)
 #define changed_point_first(r, k) (r)
 #define changed_degree(r, k) (r)
 #define changed_area_first(r, k) (r)
 #define changed_sides(r, k) (r)
-#define changed_neighbours(r, k) (r)
 
 CALL(cross)
 CALL(turn)

@@ -15,6 +15,7 @@
 #include "damage.h"
 #include "examples.h"
 #include "lending.h"
+#include "neighbours.h"
 #include "pmap.h"
 #include "reference.h"
 #include "sessions.h"
@@ -277,6 +278,8 @@ int main(int argc, char **argv)
     all_drawings(small ? 2 : 3);
     random_small(small ? 60 : 12000);
     random_drawings(small ? 60 : 6000);
+    known_neighbours(!small);
+    random_neighbours(small ? 60 : 3000, 40);
     damaged();
     random_bytes(small ? 100 : 20000);
     long_sessions();
@@ -284,6 +287,7 @@ int main(int argc, char **argv)
     if (!small) {
         large(2048, 6);
         largest();
+        random_neighbours(24, MOST_BORDERS);
     }
     every_status();
     return finish() > 0;

@@ -188,15 +188,22 @@ void compare_value(const char *name, library_call *call, const uint8_t *map, siz
     compare(name, number, 0, map, length, want, call(map, length, number, &cells[1]), cells);
 }
 
-void compare_numbers(const uint8_t *bytes, size_t length)
+void compare_areas(const uint8_t *bytes, size_t length)
 {
     const struct call *call;
     size_t k;
     expect(unpack(bytes, length, &drawing) == 0 && make_book(&drawing, &book), "reference", "the card does not open");
+    for (k = 1; k <= book.areas; k++)
+        for EACH(of_area, call) compare_call(call, bytes, length, 0, &book, k);
+}
+
+void compare_numbers(const uint8_t *bytes, size_t length)
+{
+    const struct call *call;
+    size_t k;
+    compare_areas(bytes, length);
     for (k = 1; k <= 2 * drawing.m; k++)
         for EACH(of_place, call) compare_call(call, bytes, length, 0, &book, k);
     for (k = 1; k <= book.n; k++)
         for EACH(of_point, call) compare_call(call, bytes, length, 0, &book, k);
-    for (k = 1; k <= book.areas; k++)
-        for EACH(of_area, call) compare_call(call, bytes, length, 0, &book, k);
 }

@@ -23,6 +23,9 @@ void compare_bytes(const uint8_t *bytes, size_t length);
 /* The card that a drawing packs to, against the book of that very drawing: every number, or `some` of each kind. */
 void compare_drawing(const struct drawing *d, size_t some);
 
+/* Every area of a card that opens. */
+void compare_areas(const uint8_t *bytes, size_t length);
+
 /* Every place, point and area of a card that opens, and no pair of points. */
 void compare_numbers(const uint8_t *bytes, size_t length);
 

@@ -72,9 +72,20 @@ static int show(const char *group, size_t most)
     return most > PMAP_STACK;
 }
 
+/* The neighbours of area 1 where it has most sides, and where it has most neighbours: in a tree, and beside 2,048 loops. */
+static void keep_most_neighbours(size_t *most)
+{
+    call = pmap_neighbours;
+    asked = 1;
+    random_card(&card, BORDERS, BORDERS + 1, 4);
+    keep_most(most, ask);
+    random_card(&card, BORDERS, 1, 0);
+    keep_most(most, ask);
+}
+
 int main(void)
 {
-    size_t opening = 0, places = 0, points = 0, areas = 0, joining = 0, sessions = 0, unpacking = 0, packing = 0, round, i;
+    size_t opening = 0, places = 0, points = 0, areas = 0, neighbours = 0, joining = 0, sessions = 0, unpacking = 0, packing = 0, round, i;
     int over = 0;
 
     base = used(nothing);
@@ -97,7 +108,7 @@ int main(void)
         for (i = 0; i < 6 * OF_AREA; i++) {
             call = of_area[i % OF_AREA].library;
             asked = random_below((size_t)m - n + 4);
-            keep_most(&areas, ask);
+            keep_most(call == pmap_neighbours ? &neighbours : &areas, ask);
         }
         asked = 1 + random_below(2 * borders + 1);
         for (i = 0; i < CALLS; i++) calls[i] = (uint8_t)random_below(OF_PLACE);
@@ -116,10 +127,12 @@ int main(void)
             }
         }
     }
+    keep_most_neighbours(&neighbours);
     over |= show("pmap_open", opening);
     over |= show("of a place", places);
     over |= show("of a point", points);
     over |= show("of an area", areas);
+    over |= show("pmap_neighbours", neighbours);
     over |= show("pmap_joining", joining);
     over |= show("pmap_session", sessions);
     over |= show("pmap_unpack", unpacking);
