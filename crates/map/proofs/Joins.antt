@@ -1,12 +1,10 @@
 -- The joining border: what the search about a point keeps from turn to turn, and what follows where it ends.
 --
--- turned-round, turned-square == the position after p, by the bracket
--- turned-mate     == it is the one after the partner
 -- left-at         == how many places of a point are left from a position on
 -- Joining         == the search from here answers what the whole search answers
 -- joining-start, joining-on == from one place to the next in turning order
 -- joining-here    == the place where the crossing lands at v
--- joining-end, joining-back == 0 after the point's last place
+-- joining-back    == 0 after the point's last place
 -- joining-more    == no place is answered where more are left than are looked at
 -- found-early, found-full == what is a place or 0 is the answer; it is one if all places may be looked at
 -- join-empty, join-start, join-full == the search about u, from its first position
@@ -14,27 +12,24 @@
 -- join-answers    == the place that the search finds
 -- Assumes nothing.
 use mathlib.Core.Path.{_≡_, refl, sym, ap, _∙_}
-use mathlib.Core.Logic.{inl, inr}
 use mathlib.Core.Bool.{Bool, true, false, _&&_}
 use mathlib.Core.List.{List}
 use Prim.Native.Nat.{ℕ, zero, suc, _+_, _-_, _<_, _≤_}
 use native.Mathlib.Omega.{arith}
-use borrow.Author.Tests.{eq-eqb, ne-eqb, eqb-true, eqb-false}
+use borrow.Author.Tests.{eq-eqb, ne-eqb}
 use lib.Dec.{eqb}
 use Rattle.count.specs.Below.{pick, count}
-use Rattle.count.proofs.Logic.{true-or-false}
 use Rattle.count.proofs.Counts.{count-yes, count-no, count-none, count-before}
-use Rattle.words.specs.Brackets.{Bracket, Balanced, inner, mate, next, number, step, first, size}
+use Rattle.words.specs.Brackets.{Bracket, Balanced, inner, number, step, first, size}
 use Rattle.words.specs.declared.family.Family.the-variants.{Round as round}
 use Rattle.words.specs.Word.{seen, Word, crossing}
 use Rattle.words.proofs.Stack.{inner-le}
-use Rattle.words.proofs.Step.{next-plain, next-last, step-below, inner-step}
+use Rattle.words.proofs.Step.{step-below, inner-step}
 use Rattle.words.proofs.Numbers.{inner-number, number-inner}
 use Rattle.words.proofs.Order.{walk-rises, walk-returns}
-use Rattle.bits.specs.Strings.{bit}
 use Rattle.drawing.specs.Drawing.{Kind}
 use Rattle.drawing.specs.Session.{Answer, answer, refused}
-use Rattle.format.specs.Bytes.{sizeIn, bitsA, partA, wordIn}
+use Rattle.format.specs.Bytes.{sizeIn, bitsA, wordIn}
 use Rattle.format.specs.Calls.{isNumber, joinIn, placesIn, joiningOf}
 use Rattle.format.specs.Open.{opened}
 use Rattle.opening.specs.declared.answers.Point.{Point}
@@ -42,36 +37,9 @@ use Rattle.opening.specs.declared.answers.Cell.{Cell}
 use Rattle.opening.specs.Checks.{cellRefusal}
 use Rattle.opening.proofs.Passed.{cell-declines, cell-answers}
 use Rattle.sizing.proofs.Counting.{size-none, first-itself, size-some}
-use Rattle.map.specs.Joined.{joinedIn, joinedFrom, Start, Found, turnedIn}
+use Rattle.map.specs.Joined.{joinedIn, joinedFrom, Start, Found}
 use Rattle.walking.specs.Positions.{Position, Numbered}
 use Rattle.walking.proofs.Decoded.{nested, places-most}
-use Rattle.walking.proofs.Walks.{mate-other}
-use Rattle.surveying.proofs.Looked.{mate-in-own}
-
--- ---- the bracket after p
-module _ (a : List ℕ) (p q x : ℕ) (hx : x ≡ bit a p) where
-  turned-by : Bool → ℕ
-  turned-by t = pick t q p + 1
-
-  pub turned-round : x ≡ 1 → q + 1 ≡ turnedIn a p q
-  unfolding turnedIn turned-by
-  turned-round e = sym (ap turned-by (eq-eqb (bit a p) 1 (sym hx ∙ e)))
-
-  pub turned-square : (x ≡ 1 → ⊥) → p + 1 ≡ turnedIn a p q
-  unfolding turnedIn turned-by
-  turned-square m = sym (ap turned-by (ne-eqb (bit a p) 1 (λ y. m (hx ∙ y))))
-
-module _ (s a : List ℕ) (p q r : ℕ) (P : Position s p) (ha : a ≡ partA s) (C : q ≡ crossing (wordIn s) p) (h : r ≡ turnedIn a p q) where
-  turned-to : (t : Bool) → eqb (bit a p) 1 ≡ t → r ≡ pick t q p + 1
-  unfolding turnedIn
-  turned-to t e = h ∙ ap (λ x. pick x q p + 1) e
-
-  pub turned-mate : r ≡ mate (seen round (wordIn s)) (bitsA (sizeIn s)) p + 1
-  turned-mate =
-      elim (true-or-false (eqb (bit a p) 1)) [
-        | inl t ↦ turned-to true t ∙ ap (λ x. x + 1) (mate-in-own s round p a 1 (bit a p) q ha refl refl (eqb-true (bit a p) 1 t) C)
-        | inr t ↦ turned-to false t ∙ ap (λ x. x + 1) (mate-other s round p P a 1 (bit a p) refl ha refl (eqb-false (bit a p) 1 t))
-      ]
 
 -- ---- how many places are left
 count-gap : (P : ℕ → Bool) (i k : ℕ) → ((x : ℕ) → i ≤ x → x < i + k → P x ≡ false) → count P (i + k) ≡ count P i
@@ -178,8 +146,8 @@ module _ (s : List ℕ) (v f most : ℕ) where
         let z : joinIn (wordIn s) v (rest-at p) p ≡ suc p = ap (λ y. joinIn (wordIn s) v y p) some ∙ join-yes (wordIn s) v (rest-at p - 1) p t in
         record { is = λ l. omega (arith, J .rest); enough = λ l. omega (arith, J .at .below) }
 
-    module _ (a : List ℕ) (n q x r : ℕ) (ha : a ≡ partA s) (hn : n ≡ bitsA (sizeIn s)) (C : q ≡ crossing (wordIn s) p)
-        (e : x ≡ number (seen round (wordIn s)) q) (m : x ≡ v → ⊥) (h : r ≡ turnedIn a p q) where
+    module _ (q x r : ℕ) (C : q ≡ crossing (wordIn s) p) (e : x ≡ number (seen round (wordIn s)) q) (m : x ≡ v → ⊥)
+        (h : r ≡ step (seen round (wordIn s)) (bitsA (sizeIn s)) p) where
       on : (k : ℕ) → rest-at p ≡ suc k → joinIn (wordIn s) v k (step (seen round (wordIn s)) (bitsA (sizeIn s)) p) ≡ joinedFrom s v f
       unfolding wordIn
       on k i =
@@ -192,30 +160,15 @@ module _ (s : List ℕ) (v f most : ℕ) where
           let i = left-last (seen round (wordIn s)) (bitsA (sizeIn s)) f (nested s round (J .at .opens)) p (J .at .below) (J .of) z in
           record { is = λ l. sym (join-zero (wordIn s) v (step (seen round (wordIn s)) (bitsA (sizeIn s)) p)) ∙ on 0 i; enough = λ l. omega arith }
 
-      after : step (seen round (wordIn s)) (bitsA (sizeIn s)) p ≡ next (bitsA (sizeIn s)) (mate (seen round (wordIn s)) (bitsA (sizeIn s)) p)
-      unfolding step
-      after = refl
-
-      beyond : (r ≡ n → ⊥) → step (seen round (wordIn s)) (bitsA (sizeIn s)) p ≡ r
-      beyond z =
-          let t = turned-mate s a p q r (J .at) ha C h in
-          after ∙ next-plain (bitsA (sizeIn s)) (mate (seen round (wordIn s)) (bitsA (sizeIn s)) p) (λ y. z (t ∙ y ∙ sym hn)) ∙ sym t
-
-      pub joining-end : r ≡ n → Found s v f most 0
-      joining-end z =
-          let t = turned-mate s a p q r (J .at) ha C h in
-          let y = next-last (bitsA (sizeIn s)) (mate (seen round (wordIn s)) (bitsA (sizeIn s)) p) (sym t ∙ z ∙ hn) in
-          last (omega (arith, after))
-
       pub joining-back : r ≤ p → Found s v f most 0
-      joining-back z = last (omega (arith, beyond (λ y. omega (arith, J .at .below))))
+      joining-back z = last (omega arith)
 
-      pub joining-on : (left ≡ 0 → ⊥) → p < r → (r ≡ n → ⊥) → Joining r (left - 1)
+      pub joining-on : (left ≡ 0 → ⊥) → p < r → Joining r (left - 1)
       unfolding rest-at
-      joining-on u z y =
+      joining-on u z =
           let b = seen round (wordIn s) in
           let bal = nested s round (J .at .opens) in
-          let k = beyond y in
+          let k = sym h in
           let l = step-below b (bitsA (sizeIn s)) bal p (J .at .below) in
           let i = left-next b (bitsA (sizeIn s)) f bal p (J .at .below) (J .of) (omega arith) in
           record {

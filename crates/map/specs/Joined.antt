@@ -4,17 +4,13 @@
 -- Start s f          == f is the first position of its point
 -- joinedFrom s v f   == the joining border of v and the point whose first position is f
 -- Found s v f most r == r is it, where r is a place or 0; so it is where no more than `most` places are to be looked at
--- turnedIn a p q     == the position after p about the same point, if a higher one is left; q is the partner of p, a the string A
 -- Assumes nothing.
 use mathlib.Core.Path.{_≡_}
 use mathlib.Core.List.{List}
-use Prim.Native.Nat.{ℕ, _+_, _≤_}
-use lib.Dec.{eqb}
-use Rattle.count.specs.Below.{pick}
+use Prim.Native.Nat.{ℕ, _≤_}
 use Rattle.words.specs.Brackets.{inner, number, first, size}
 use Rattle.words.specs.declared.family.Family.the-variants.{Round as round}
 use Rattle.words.specs.Word.{seen}
-use Rattle.bits.specs.Strings.{bit}
 use Rattle.drawing.specs.Drawing.{Kind}
 use Rattle.format.specs.Bytes.{sizeIn, bitsA, wordIn}
 use Rattle.format.specs.Calls.{placesIn, joinIn}
@@ -35,8 +31,3 @@ joinedFrom s v f =
 pub record Found (s : List ℕ) (v f most r : ℕ) : Type 0 where
   pub is : r ≤ bitsA (sizeIn s) → r ≡ joinedFrom s v f
   pub enough : bitsA (sizeIn s) ≤ most → r ≤ bitsA (sizeIn s)
-
--- 01, Tour: "A: bit i is 1 if place i is of a marked border": its brackets are round, and the next place is after the partner
-unfoldable pub turnedIn : List ℕ → ℕ → ℕ → ℕ
-unfolding bit
-turnedIn a p q = pick (eqb (bit a p) 1) q p + 1

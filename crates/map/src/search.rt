@@ -1,6 +1,5 @@
 // The search for the joining border of two points.
 use layout::bits_a;
-use layout::part_a;
 use opening::Cell;
 use opening::Place;
 use opening::PlaceAnswer;
@@ -12,15 +11,16 @@ use surveying::crossing_in;
 use surveying::point_in;
 use surveying::survey;
 use walking::first_at;
+use walking::step_past;
+use words::Family;
 ghost use mathlib.Core.Path.{_≡_};
-ghost use Prim.Native.Nat.{_<_};
 ghost use Rattle.words.specs.declared.family.Family.the-variants.{Round as round};
 ghost use Rattle.format.specs.Bytes.{sizeIn, bitsA};
 ghost use Rattle.format.specs.Calls.{joiningOf};
 ghost use Rattle.opening.specs.Answers.{placeMeans};
 ghost use Rattle.walking.specs.Positions.{Numbered};
 ghost use Rattle.surveying.specs.Surveyed.{Mates, Numbers};
-ghost use Rattle.map.specs.Joined.{joinedIn, joinedFrom, Start, Found, turnedIn};
+ghost use Rattle.map.specs.Joined.{joinedIn, joinedFrom, Start, Found};
 
 // Places that are surveyed in the time of looking at one by walking, as measured on many maps in turn.
 const WALK: usize = 64;
@@ -97,7 +97,6 @@ fn join_from(map: &[u8], mates: &[u16], points: &[u16], v: Point, most: usize, f
     requires { ⌜ Start (now map) f × Mates (now map) (now mates) × Numbers round (now map) (now points) ⌝ }
     ensures { λ r. ⌜ Found (now (map .entry)) (v .0) f most r ⌝ }
 {
-    let a = part_a(map);
     let n = bits_a(map);
     let to = v.0;
     let mut p = f;
@@ -111,23 +110,12 @@ fn join_from(map: &[u8], mates: &[u16], points: &[u16], v: Point, most: usize, f
         if at.0 == to {
             break p + 1;
         }
-        let r = turned(a, p, q);
+        let r = step_past(map, Family::Round, p, q);
         if r <= p {
-            break 0;
-        }
-        if r == n {
             break 0;
         }
         p = r;
         left -= 1;
     };
     found
-}
-
-// The position after p, where q is the partner of p: after q if p is a round bracket, which the string A, a, tells.
-fn turned(a: &[u8], p: usize, q: usize) -> usize
-    requires { ⌜ (p < 4096) × (q < 4096) ⌝ }
-    ensures { λ r. ⌜ r ≡ turnedIn (now (a .entry)) p q ⌝ }
-{
-    if bits::bit(a, p) == 1 { q + 1 } else { p + 1 }
 }

@@ -5,23 +5,22 @@ use opening::Cell;
 use sizing::size_at;
 use surveying::area_in;
 use surveying::crossing_in;
-use surveying::step_in;
 use surveying::survey;
 use walking::first_at;
+use walking::step_past;
 use words::Family;
 ghost use mathlib.Core.Path.{_≡_};
 ghost use Rattle.words.specs.declared.family.Family.the-variants.{Square as square};
-ghost use Rattle.format.specs.Bytes.{sizeIn, wordIn};
 ghost use Rattle.opening.specs.declared.answers.Cell.{Cell};
 ghost use Rattle.surveying.specs.Surveyed.{Mates, Numbers};
 ghost use Rattle.walking.specs.Positions.{Numbered};
 ghost use Rattle.neighbouring.specs.Counted.{neighboursAt, Start};
 
-// Places that are surveyed in the time of looking at one by walking, as measured on many maps in turn.
-const WALK: usize = 64;
+// Places that are surveyed in the time of crossing one side by walking, on the slowest maps, as measured on many in turn.
+const WALK: usize = 256;
 
-// Places that are looked at by walking in the time that the survey of a small map takes.
-const LEAST: usize = 12;
+// Sides that are crossed by walking in the time that the survey of a small map takes.
+const LEAST: usize = 6;
 
 // One flag for each of the most areas that a map has, 2,049, and none for 0.
 const FLAGS: usize = 2050;
@@ -74,7 +73,7 @@ fn count_from(map: &[u8], mates: &[u16], areas: &[u16], area: Area, f: usize) ->
         let k = across.0;
         others += (1 - met[k]) as usize;
         met[k] = 1;
-        let r = step_in(map, mates, Family::Square, p);
+        let r = step_past(map, Family::Square, p, q);
         if r <= p {
             break;
         }

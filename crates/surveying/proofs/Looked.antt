@@ -2,23 +2,22 @@
 --
 -- cross-in, cross-in-at == the entry is the crossing, and a position
 -- number-in      == so with numbers
--- mate-in-own, mate-in-entry == in its own family it is the partner
+-- mate-in-entry  == in its own family it is the partner
 -- Assumes nothing.
-use mathlib.Core.Path.{_≡_, refl, sym, ap, _∙_}
+use mathlib.Core.Path.{_≡_, _∙_}
 use mathlib.Core.List.{List}
 use Prim.Native.Nat.{ℕ, _<_}
 use native.Mathlib.Omega.{arith}
 use lib.ListN.{length, getD}
 use Rattle.words.specs.Brackets.{mate, number}
 use Rattle.words.specs.declared.family.Family.{Family}
-use Rattle.words.specs.declared.family.Family.the-variants.{Round as round, Square as square}
 use Rattle.words.specs.Word.{seen, crossing}
 use Rattle.words.proofs.Mate.{mate-below}
 use Rattle.bits.specs.Strings.{bit}
 use Rattle.format.specs.Bytes.{sizeIn, bitsA, partA, familyBit, wordIn}
 use Rattle.walking.specs.Positions.{Position}
 use Rattle.walking.proofs.Decoded.{places-most, nested}
-use Rattle.walking.proofs.Walks.{family-round, family-square}
+use Rattle.walking.proofs.Walks.{mate-crossed}
 use Rattle.surveying.specs.Surveyed.{Mates, Numbers}
 
 module _ (s : List ℕ) (p : ℕ) (P : Position s p) where
@@ -36,18 +35,6 @@ module _ (s : List ℕ) (p : ℕ) (P : Position s p) where
   pub number-in : (K : Family) (l : List ℕ) (r : ℕ) → Numbers K s l → p < length l → r ≡ getD l p 0 → r ≡ number (seen K (wordIn s)) p
   number-in K l r N i e = e ∙ N .at p (P .below) i
 
--- the family of a letter whose bit is the family's
-own-family : (s : List ℕ) (K : Family) (p x : ℕ) → x ≡ bit (partA s) p → x ≡ familyBit K → K ≡ wordIn s .letter p .family
-own-family s round p x h e = family-round s p (partA s) x refl h e
-own-family s square p x h e = family-square s p (partA s) x refl h (λ y. omega arith)
-
-pub mate-in-own : (s : List ℕ) (K : Family) (p : ℕ) (a : List ℕ) (v x r : ℕ) → a ≡ partA s → x ≡ bit a p → v ≡ familyBit K → x ≡ v
-    → r ≡ crossing (wordIn s) p → r ≡ mate (seen K (wordIn s)) (bitsA (sizeIn s)) p
-unfolding crossing wordIn
-mate-in-own s K p a v x r ha hx hv e h =
-    let f : K ≡ wordIn s .letter p .family = own-family s K p x (hx ∙ ap (λ y. bit y p) ha) (e ∙ hv) in
-    h ∙ sym (ap (λ X. mate (seen X (wordIn s)) (bitsA (sizeIn s)) p) f)
-
 pub mate-in-entry : (s : List ℕ) (K : Family) (p : ℕ) (a l : List ℕ) (v x r : ℕ) → Position s p → Mates s l → p < length l → a ≡ partA s → x ≡ bit a p
     → v ≡ familyBit K → x ≡ v → r ≡ getD l p 0 → r ≡ mate (seen K (wordIn s)) (bitsA (sizeIn s)) p
-mate-in-entry s K p a l v x r P M i ha hx hv e h = mate-in-own s K p a v x r ha hx hv e (cross-in s p P l r M i h)
+mate-in-entry s K p a l v x r P M i ha hx hv e h = mate-crossed s K p a v x r ha hx hv e (cross-in s p P l r M i h)

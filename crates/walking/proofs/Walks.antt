@@ -2,7 +2,7 @@
 --
 -- family-round, family-square == the family of a letter, by its bit in A
 -- mate-own, mate-own-at, mate-other == the partner of a position of the family, and of one of the other family
--- cross-is                    == the crossing is the partner in the position's own family
+-- cross-is, mate-crossed      == the crossing is the partner in the position's own family
 -- after-next, after-last, after-below, after-few == the position after one, and what is asked for it
 -- step-is, step-position      == the step is the position after the partner
 -- number-is-rank              == the number
@@ -10,7 +10,7 @@
 -- first-holds, first-one, first-more == it holds of `first`, which is 0 for number 1, else after the opening that reaches it
 -- first-at                == it is a position
 -- Assumes nothing.
-use mathlib.Core.Path.{_≡_, sym, ap, _∙_}
+use mathlib.Core.Path.{_≡_, refl, sym, ap, _∙_}
 use mathlib.Core.List.{List}
 use Prim.Native.Nat.{ℕ, _+_, _-_, _<_, _≤_}
 use native.Mathlib.Omega.{arith}
@@ -106,6 +106,18 @@ pub cross-is : (s : List ℕ) (K : Family) (p r : ℕ) → K ≡ wordIn s .lette
     → r ≡ crossing (wordIn s) p
 unfolding crossing wordIn
 cross-is s K p r e h = h ∙ ap (λ X. mate (seen X (wordIn s)) (bitsA (sizeIn s)) p) e
+
+-- the family of a letter whose bit is the family's
+own-family : (s : List ℕ) (K : Family) (p x : ℕ) → x ≡ bit (partA s) p → x ≡ familyBit K → K ≡ wordIn s .letter p .family
+own-family s round p x h e = family-round s p (partA s) x refl h e
+own-family s square p x h e = family-square s p (partA s) x refl h (λ y. omega arith)
+
+pub mate-crossed : (s : List ℕ) (K : Family) (p : ℕ) (a : List ℕ) (v x r : ℕ) → a ≡ partA s → x ≡ bit a p → v ≡ familyBit K → x ≡ v
+    → r ≡ crossing (wordIn s) p → r ≡ mate (seen K (wordIn s)) (bitsA (sizeIn s)) p
+unfolding crossing wordIn
+mate-crossed s K p a v x r ha hx hv e h =
+    let f : K ≡ wordIn s .letter p .family = own-family s K p x (hx ∙ ap (λ y. bit y p) ha) (e ∙ hv) in
+    h ∙ sym (ap (λ X. mate (seen X (wordIn s)) (bitsA (sizeIn s)) p) f)
 
 -- ---- the first position of a number
 pub record Firsts (s : List ℕ) (K : Family) (k f : ℕ) : Type 0 where

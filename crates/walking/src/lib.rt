@@ -5,6 +5,7 @@
 //     mate_at            its partner in a family
 //     after              the position after one, and 0 after the last
 //     step_at            the next position about the same point, the same area
+//     step_past          the same, from a partner
 //     number_at          the number of its point, of its area, by the family
 //     point_of, area_of  its point, its area
 //     first_at           the first position of a point, of an area
@@ -33,3 +34,4 @@ pub use word::mate_at;
 pub use word::number_at;
 pub use word::point_of;
 pub use word::step_at;
+pub use word::step_past;

@@ -1,17 +1,14 @@
 -- `map::search::join_from` meets its contract. The loop keeps `Joining`: the rest of the search answers what the whole search answers. Assumes nothing.
-use Rattle.map.proofs.Joins.{Joining, joining-start, joining-on, joining-here, joining-end, joining-back, joining-more}
+use Rattle.map.proofs.Joins.{Joining, joining-start, joining-on, joining-here, joining-back, joining-more}
 use borrow.Author.Needs.{needs}
 use Rattle.map.proofs.search.join_from.Statement.{statement}
 use Rattle.map.proofs.search.join_from.Tie as tie
 
 abbrev Inv-loop : tie.InvT-loop
-Inv-loop map mates points most f a n to p₀ left₀ p left = Joining map to f most p left
+Inv-loop map mates points most f n to p₀ left₀ p left = Joining map to f most p left
 
 abbrev μ-loop : tie.MeasureT-loop
-μ-loop map mates points most f a n to p₀ left₀ p left = left
-
-part-a-requires : tie.Need-part-a-requires Inv-loop μ-loop
-part-a-requires c κs = search needs
+μ-loop map mates points most f n to p₀ left₀ p left = left
 
 bits-a-requires : tie.Need-bits-a-requires Inv-loop μ-loop
 bits-a-requires c κs = search needs
@@ -31,8 +28,8 @@ point-in-requires c κs = search needs
 add-found-2 : tie.Need-add-found-2 Inv-loop μ-loop
 add-found-2 c = search needs
 
-turned-requires : tie.Need-turned-requires Inv-loop μ-loop
-turned-requires c κs = search needs
+step-past-requires : tie.Need-step-past-requires Inv-loop μ-loop
+step-past-requires c κs = search needs
 
 sub-left : tie.Need-sub-left Inv-loop μ-loop
 sub-left c = search needs
@@ -52,27 +49,22 @@ returns-2 c = search joining-here
 returns-3 : tie.Need-returns-3 Inv-loop μ-loop
 returns-3 c = search joining-back
 
-returns-4 : tie.Need-returns-4 Inv-loop μ-loop
-returns-4 c = search joining-end
-
 pub join-from-spec : {M : Type 1} → statement M
 join-from-spec =
     tie.close
     (tie.spec
     Inv-loop
     μ-loop
-    part-a-requires
     bits-a-requires
     loop-holds
     add-found
     crossing-in-requires
     point-in-requires
     add-found-2
-    turned-requires
+    step-past-requires
     sub-left
     loop-less
     loop-again
     returns
     returns-2
-    returns-3
-    returns-4)
+    returns-3)

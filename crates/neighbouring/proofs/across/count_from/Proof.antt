@@ -39,8 +39,8 @@ add-others c = search others-fit
 array-write-met-2 : tie.Need-array-write-met-2 Inv-loop μ-loop
 array-write-met-2 c = search across-index
 
-step-in-requires : tie.Need-step-in-requires Inv-loop μ-loop
-step-in-requires c κs = search needs
+step-past-requires : tie.Need-step-past-requires Inv-loop μ-loop
+step-past-requires c κs = search needs
 
 loop-less : tie.Need-loop-less Inv-loop μ-loop
 loop-less c = search needs
@@ -66,7 +66,7 @@ count-from-spec =
     cast-others
     add-others
     array-write-met-2
-    step-in-requires
+    step-past-requires
     loop-less
     loop-again
     returns)
