@@ -6,7 +6,6 @@
 -- joining-here    == the place where the crossing lands at v
 -- joining-back    == 0 after the point's last place
 -- joining-more    == no place is answered where more are left than are looked at
--- found-early, found-full == what is a place or 0 is the answer; it is one if all places may be looked at
 -- join-empty, join-start, join-full == the search about u, from its first position
 -- join-declines, join-no-such == 8 to 12 and 14 for u; 14 for v
 -- join-answers    == the place that the search finds
@@ -37,7 +36,8 @@ use Rattle.opening.specs.declared.answers.Cell.{Cell}
 use Rattle.opening.specs.Checks.{cellRefusal}
 use Rattle.opening.proofs.Passed.{cell-declines, cell-answers}
 use Rattle.sizing.proofs.Counting.{size-none, first-itself, size-some}
-use Rattle.map.specs.Joined.{joinedIn, joinedFrom, Start, Found}
+use Rattle.surveying.specs.Surveyed.{Early}
+use Rattle.map.specs.Joined.{joinedIn, joinedFrom, Start}
 use Rattle.walking.specs.Positions.{Position, Numbered}
 use Rattle.walking.proofs.Decoded.{nested, places-most}
 
@@ -129,7 +129,7 @@ module _ (s : List ℕ) (v f most : ℕ) where
       }
 
   module _ (p left : ℕ) (J : Joining p left) where
-    pub joining-more : (n : ℕ) → n ≡ bitsA (sizeIn s) → left ≡ 0 → Found s v f most (n + 1)
+    pub joining-more : (n : ℕ) → n ≡ bitsA (sizeIn s) → left ≡ 0 → Early (bitsA (sizeIn s)) most (joinedFrom s v f) (n + 1)
     joining-more n e z =
         record { is = λ h. absurd (omega arith); enough = λ h. absurd (omega (arith, J .room h, J .at .below)) }
 
@@ -140,7 +140,7 @@ module _ (s : List ℕ) (v f most : ℕ) where
     unfolding rest-at
     some = left-some (seen round (wordIn s)) (bitsA (sizeIn s)) f (nested s round (J .at .opens)) p (J .at .below) (J .of)
 
-    pub joining-here : (q x : ℕ) → q ≡ crossing (wordIn s) p → x ≡ number (seen round (wordIn s)) q → x ≡ v → Found s v f most (p + 1)
+    pub joining-here : (q x : ℕ) → q ≡ crossing (wordIn s) p → x ≡ number (seen round (wordIn s)) q → x ≡ v → Early (bitsA (sizeIn s)) most (joinedFrom s v f) (p + 1)
     joining-here q x C e h =
         let t = eq-eqb (number (seen round (wordIn s)) (crossing (wordIn s) p)) v (lands q x C e ∙ h) in
         let z : joinIn (wordIn s) v (rest-at p) p ≡ suc p = ap (λ y. joinIn (wordIn s) v y p) some ∙ join-yes (wordIn s) v (rest-at p - 1) p t in
@@ -154,13 +154,13 @@ module _ (s : List ℕ) (v f most : ℕ) where
           let o = ne-eqb (number (seen round (wordIn s)) (crossing (wordIn s) p)) v (λ y. m (sym (lands q x C e) ∙ y)) in
           sym (ap (λ y. joinIn (wordIn s) v y p) i ∙ join-no (wordIn s) v k p o) ∙ J .rest
 
-      last : step (seen round (wordIn s)) (bitsA (sizeIn s)) p ≤ p → Found s v f most 0
+      last : step (seen round (wordIn s)) (bitsA (sizeIn s)) p ≤ p → Early (bitsA (sizeIn s)) most (joinedFrom s v f) 0
       unfolding rest-at
       last z =
           let i = left-last (seen round (wordIn s)) (bitsA (sizeIn s)) f (nested s round (J .at .opens)) p (J .at .below) (J .of) z in
           record { is = λ l. sym (join-zero (wordIn s) v (step (seen round (wordIn s)) (bitsA (sizeIn s)) p)) ∙ on 0 i; enough = λ l. omega arith }
 
-      pub joining-back : r ≤ p → Found s v f most 0
+      pub joining-back : r ≤ p → Early (bitsA (sizeIn s)) most (joinedFrom s v f) 0
       joining-back z = last (omega arith)
 
       pub joining-on : (left ≡ 0 → ⊥) → p < r → Joining r (left - 1)
@@ -177,13 +177,6 @@ module _ (s : List ℕ) (v f most : ℕ) where
             rest = ap (λ c. joinIn (wordIn s) v (rest-at c) c) (sym k) ∙ on (rest-at (step b (bitsA (sizeIn s)) p)) i;
             room = λ g. omega (arith, J .room g);
           }
-
-module _ (s : List ℕ) (v f most n r : ℕ) (hn : n ≡ bitsA (sizeIn s)) (F : Found s v f most r) where
-  pub found-early : r ≤ n → r ≡ joinedFrom s v f
-  found-early h = F .is (omega arith)
-
-  pub found-full : most ≡ n → r ≡ joinedFrom s v f
-  found-full e = F .is (F .enough (omega arith))
 
 -- ---- the search about u
 module _ (s : List ℕ) (u : Point) (v n : ℕ) (hn : n ≡ bitsA (sizeIn s)) where

@@ -3,7 +3,6 @@
 -- joinedIn s u v     == the joining border of u and v, once both are points of s
 -- Start s f          == f is the first position of its point
 -- joinedFrom s v f   == the joining border of v and the point whose first position is f
--- Found s v f most r == r is it, where r is a place or 0; so it is where no more than `most` places are to be looked at
 -- Assumes nothing.
 use mathlib.Core.Path.{_≡_}
 use mathlib.Core.List.{List}
@@ -27,7 +26,3 @@ pub record Start (s : List ℕ) (f : ℕ) : Type 0 where
 abbrev pub joinedFrom : List ℕ → ℕ → ℕ → ℕ
 joinedFrom s v f =
     joinIn (wordIn s) v (size (seen round (wordIn s)) (bitsA (sizeIn s)) (number (seen round (wordIn s)) f)) f
-
-pub record Found (s : List ℕ) (v f most r : ℕ) : Type 0 where
-  pub is : r ≤ bitsA (sizeIn s) → r ≡ joinedFrom s v f
-  pub enough : bitsA (sizeIn s) ≤ most → r ≤ bitsA (sizeIn s)

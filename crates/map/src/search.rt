@@ -19,8 +19,8 @@ ghost use Rattle.format.specs.Bytes.{sizeIn, bitsA};
 ghost use Rattle.format.specs.Calls.{joiningOf};
 ghost use Rattle.opening.specs.Answers.{placeMeans};
 ghost use Rattle.walking.specs.Positions.{Numbered};
-ghost use Rattle.surveying.specs.Surveyed.{Mates, Numbers};
-ghost use Rattle.map.specs.Joined.{joinedIn, joinedFrom, Start, Found};
+ghost use Rattle.surveying.specs.Surveyed.{Mates, Numbers, Early};
+ghost use Rattle.map.specs.Joined.{joinedIn, joinedFrom, Start};
 
 // Places that are surveyed in the time of looking at one by walking, as measured on many maps in turn.
 const WALK: usize = 64;
@@ -95,7 +95,7 @@ fn walked(n: usize, k: usize) -> usize {
 // may be needed, a number that is no place is answered.
 fn join_from(map: &[u8], mates: &[u16], points: &[u16], v: Point, most: usize, f: usize) -> usize
     requires { ⌜ Start (now map) f × Mates (now map) (now mates) × Numbers round (now map) (now points) ⌝ }
-    ensures { λ r. ⌜ Found (now (map .entry)) (v .0) f most r ⌝ }
+    ensures { λ r. ⌜ Early (bitsA (sizeIn (now (map .entry)))) most (joinedFrom (now (map .entry)) (v .0) f) r ⌝ }
 {
     let n = bits_a(map);
     let to = v.0;

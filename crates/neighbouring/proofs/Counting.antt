@@ -4,6 +4,7 @@
 -- own-index, across-index, flag-most, others-fit == there is a flag for the area, and what is stored fits
 -- counting-start, counting-on == at the first side, from one side to the next
 -- counting-end    == after the last
+-- counting-more   == nothing is counted where more sides are left than are crossed
 -- count-start, count-empty == the walk starts at the area's first position; an empty map has no sides
 -- Assumes nothing.
 use mathlib.Core.Path.{_≡_, refl, sym, ap, _∙_}
@@ -17,6 +18,7 @@ use lib.ListN.{length, getD, set, length-set, replicate, length-replicate, getD-
 use lib.Seq.{getD-set-same, getD-set-other}
 use borrow.Author.Tests.{eq-eqb, ne-eqb, eqb-true, eqb-false}
 use Rattle.count.specs.Below.{pick}
+use Rattle.count.proofs.Counts.{count-le}
 use Rattle.count.proofs.Logic.{same-or-not, true-or-false, true-not-false, one-of, either-left, either-right}
 use Rattle.words.specs.Brackets.{Bracket, inner, number, step, first}
 use Rattle.words.specs.declared.family.Family.the-variants.{Square as square}
@@ -27,7 +29,7 @@ use Rattle.words.proofs.Numbers.{inner-number, number-inner, number-positive, n
 use Rattle.words.proofs.Order.{walk-rises, walk-returns}
 use Rattle.drawing.specs.Drawing.{Kind}
 use Rattle.drawing.specs.Neighbours.{isAcross, neighbours}
-use Rattle.drawing.proofs.Neighbours.{neighbours-le}
+use Rattle.drawing.proofs.Neighbours.{neighbours-le, neighbours-most}
 use Rattle.format.specs.Bytes.{sizeIn, bitsA, wordIn}
 use Rattle.format.specs.Calls.{cellsIn, neighboursIn}
 use Rattle.format.specs.Open.{openRefusal}
@@ -38,6 +40,7 @@ use Rattle.opening.specs.declared.answers.Cell.{Cell}
 use Rattle.walking.specs.Positions.{Position, Numbered}
 use Rattle.walking.proofs.Decoded.{nested}
 use Rattle.walking.proofs.Walks.{Firsts, first-holds}
+use Rattle.surveying.specs.Surveyed.{Early}
 use Rattle.neighbouring.specs.Counted.{neighboursAt, Start}
 use Rattle.neighbouring.proofs.Sides.{across-none, neighbours-start, across-kept, across-there, neighbours-met, neighbours-new}
 
@@ -53,7 +56,7 @@ neither : (x y : Bool) → x || y ≡ false → (x ≡ false) × (y ≡ false)
 neither true y e = absurd (true-not-false true refl e)
 neither false y e = (refl, e)
 
-module _ (s : List ℕ) (k f : ℕ) where
+module _ (s : List ℕ) (k f most : ℕ) where
   abbrev brackets : ℕ → Bracket
   brackets = seen square (wordIn s)
 
@@ -67,13 +70,14 @@ module _ (s : List ℕ) (k f : ℕ) where
   abbrev metBefore : ℕ → ℕ → Bool
   metBefore p j = eqb j k || isAcross areaAt (crossing (wordIn s)) p k j
 
-  pub record Counting (p others : ℕ) (met : List ℕ) : Type 0 where
+  pub record Counting (p others left : ℕ) (met : List ℕ) : Type 0 where
     pub at : Position s p
     pub from : Start s k f
     pub of : inner brackets p ≡ inner brackets f
     pub long : length met ≡ 2050
     pub flags : (j : ℕ) → j ≤ areasOf → getD met j 0 ≡ flag (metBefore p j)
     pub count : others ≡ neighbours areaAt (crossing (wordIn s)) p areasOf k
+    pub room : bitsA (sizeIn s) ≤ most → bitsA (sizeIn s) ≤ p + left
 
   areas-most : openRefusal s ≡ 0 → areasOf ≤ 2049
   areas-most o = omega (arith, opens-passes s o .m-most, opens-passes s o .n-least)
@@ -106,7 +110,7 @@ module _ (s : List ℕ) (k f : ℕ) where
                 ∙ across-none areaAt (crossing (wordIn s)) k f none-before j))
           ]
 
-      counting-begun : Counting f 0 (set l k 1)
+      counting-begun : Counting f 0 most (set l k 1)
       counting-begun =
           record {
             at = S .at;
@@ -115,13 +119,21 @@ module _ (s : List ℕ) (k f : ℕ) where
             long = length-set l k 1 ∙ long;
             flags = begun-flags;
             count = sym (neighbours-start areaAt (crossing (wordIn s)) k f none-before areasOf);
+            room = λ h. omega arith;
           }
 
-    pub counting-start : Counting f 0 (set (replicate 2050 0) k 1)
+    pub counting-start : Counting f 0 most (set (replicate 2050 0) k 1)
     counting-start = counting-begun (replicate 2050 0) (length-replicate {A = ℕ} 2050 0) (λ i h. getD-replicate 2050 i 0 0 h)
 
+  abbrev Answered : ℕ → Type 0
+  Answered r = Early (bitsA (sizeIn s)) most (neighboursAt s k) r
+
+  pub counting-more : (p others left : ℕ) (met : List ℕ) (n : ℕ) → Counting p others left met → n ≡ bitsA (sizeIn s) → left ≡ 0 → Answered (n + 1)
+  counting-more p others left met n C e z =
+      record { is = λ h. absurd (omega arith); enough = λ h. absurd (omega (arith, C .room h, C .at .below)) }
+
   -- ---- one side, at position p, with area j across it
-  module _ (p others : ℕ) (met : List ℕ) (C : Counting p others met) (q j : ℕ) (hq : q ≡ crossing (wordIn s) p) (hj : j ≡ areaAt q) where
+  module _ (p others left : ℕ) (met : List ℕ) (C : Counting p others left met) (q j : ℕ) (hq : q ≡ crossing (wordIn s) p) (hj : j ≡ areaAt q) where
     own : areaAt p ≡ k
     own = inner-number brackets p f (C .of) ∙ C .from .area
 
@@ -189,8 +201,8 @@ module _ (s : List ℕ) (k f : ℕ) where
             ]
 
       module _ (r : ℕ) (hr : r ≡ step brackets (bitsA (sizeIn s)) p) where
-        pub counting-on : Position s r → p < r → Counting r (others + (1 - getD met j 0)) (set met j 1)
-        counting-on R l =
+        pub counting-on : Position s r → p < r → (left ≡ 0 → ⊥) → Counting r (others + (1 - getD met j 0)) (left - 1) (set met j 1)
+        counting-on R l u =
             let bal = nested s square (Q .opens) in
             let gap : (x : ℕ) → p < x → x < r → inner brackets x ≢ inner brackets p
             = λ x i h. walk-rises brackets (bitsA (sizeIn s)) bal p (C .at .below) x (omega arith) i (omega arith) in
@@ -201,22 +213,38 @@ module _ (s : List ℕ) (k f : ℕ) where
               long = length-set met j 1 ∙ C .long;
               flags = more-flags r l gap;
               count = more-count r l gap;
+              room = λ g. omega (arith, C .room g);
             }
 
-        pub counting-end : r ≤ p → others + (1 - getD met j 0) ≡ neighboursAt s k
+        all-counted : r ≤ p → others + (1 - getD met j 0) ≡ neighboursAt s k
         unfolding neighboursIn wordIn
-        counting-end h =
+        all-counted h =
             let bal = nested s square (Q .opens) in
             more-count (bitsA (sizeIn s)) (C .at .below)
             (walk-returns brackets (bitsA (sizeIn s)) bal p (C .at .below) (omega arith) .1)
+
+        -- no more neighbours than sides, and no more sides than places
+        few-neighbours : neighboursAt s k ≤ bitsA (sizeIn s)
+        unfolding neighboursIn wordIn
+        few-neighbours =
+            omega (
+              arith,
+              neighbours-most areaAt (crossing (wordIn s)) (bitsA (sizeIn s)) areasOf k,
+              count-le (λ x. eqb (areaAt x) k) (bitsA (sizeIn s)),
+            )
+
+        pub counting-end : r ≤ p → Answered (others + (1 - getD met j 0))
+        counting-end h =
+            let e = all-counted h in
+            record { is = λ l. e; enough = λ l. omega (arith, few-neighbours) }
 
 -- ---- where the walk starts
 module _ (s : List ℕ) (a : Area) (n : ℕ) (hn : n ≡ bitsA (sizeIn s)) (N : Numbered s (Cell.Area a)) where
   pub count-empty : n ≡ 0 → 0 ≡ neighboursAt s (a .0)
   unfolding neighboursIn wordIn
   count-empty z =
-      sym (ap (λ x. neighbours (areaAt s (a .0) 0) (crossing (wordIn s)) x (areasOf s (a .0) 0) (a .0)) (sym hn ∙ z)
-      ∙ neighbours-start (areaAt s (a .0) 0) (crossing (wordIn s)) (a .0) 0 (λ x l. absurd (omega arith)) (areasOf s (a .0) 0))
+      sym (ap (λ x. neighbours (areaAt s (a .0) 0 0) (crossing (wordIn s)) x (areasOf s (a .0) 0 0) (a .0)) (sym hn ∙ z)
+      ∙ neighbours-start (areaAt s (a .0) 0 0) (crossing (wordIn s)) (a .0) 0 (λ x l. absurd (omega arith)) (areasOf s (a .0) 0 0))
 
   pub count-start : (f : ℕ) → (n ≡ 0 → ⊥) → f ≡ first (seen square (wordIn s)) (bitsA (sizeIn s)) (a .0) → Position s f → Start s (a .0) f
   count-start f m e P =

@@ -2,7 +2,6 @@
 use layout::bits_a;
 use opening::Area;
 use opening::Cell;
-use sizing::size_at;
 use surveying::area_in;
 use surveying::crossing_in;
 use surveying::survey;
@@ -12,20 +11,22 @@ use words::Family;
 ghost use mathlib.Core.Path.{_≡_};
 ghost use Rattle.words.specs.declared.family.Family.the-variants.{Square as square};
 ghost use Rattle.opening.specs.declared.answers.Cell.{Cell};
-ghost use Rattle.surveying.specs.Surveyed.{Mates, Numbers};
+ghost use Rattle.format.specs.Bytes.{sizeIn, bitsA};
+ghost use Rattle.surveying.specs.Surveyed.{Mates, Numbers, Early};
 ghost use Rattle.walking.specs.Positions.{Numbered};
 ghost use Rattle.neighbouring.specs.Counted.{neighboursAt, Start};
 
-// Places that are surveyed in the time of crossing one side by walking, on the slowest maps, as measured on many in turn.
-const WALK: usize = 256;
+// Places that are surveyed in the time of crossing one side by walking, where that takes longest, as measured on many maps.
+const WALK: usize = 512;
 
 // Sides that are crossed by walking in the time that the survey of a small map takes.
-const LEAST: usize = 6;
+const LEAST: usize = 4;
 
-// One flag for each of the most areas that a map has, 2,049, and none for 0.
+// One flag for each of the most areas that a map has, 2,049, and one more, since areas count from 1.
 const FLAGS: usize = 2050;
 
-// How many other areas lie across the sides of an area; an empty map has no sides.
+// How many other areas lie across the sides of an area. Few sides are crossed by walking through the bytes; where there are
+// more, the map is surveyed, once for all of them. An empty map has no sides.
 pub fn neighbours_at(map: &[u8], area: Area) -> usize
     requires { ⌜ Numbered (now map) (Cell.Area area) ⌝ }
     ensures { λ r. ⌜ r ≡ neighboursAt (now (map .entry)) (area .0) ⌝ }
@@ -34,40 +35,45 @@ pub fn neighbours_at(map: &[u8], area: Area) -> usize
     if n == 0 {
         return 0;
     }
-    let cell = Cell::Area(area);
-    let f = first_at(map, cell);
-    if size_at(map, cell) < n / WALK + LEAST {
-        let none = [0u16; 0];
-        count_from(map, &none, &none, area, f)
-    } else {
-        count_surveyed(map, area, f)
+    let none = [0u16; 0];
+    let f = first_at(map, Cell::Area(area));
+    let early = count_from(map, &none, &none, area, n / WALK + LEAST, f);
+    if early <= n {
+        return early;
     }
+    count_surveyed(map, area, n, f)
 }
 
-// The same, looked up in lists of the whole map.
-fn count_surveyed(map: &[u8], area: Area, f: usize) -> usize
-    requires { ⌜ Start (now map) (area .0) f ⌝ }
+// The same, looked up in lists of the whole map of n places.
+fn count_surveyed(map: &[u8], area: Area, n: usize, f: usize) -> usize
+    requires { ⌜ Start (now map) (area .0) f × (n ≡ bitsA (sizeIn (now map))) ⌝ }
     ensures { λ r. ⌜ r ≡ neighboursAt (now (map .entry)) (area .0) ⌝ }
 {
     let mut mates = [0u16; 4096];
     let mut areas = [0u16; 4096];
     let mut points = [0u16; 4096];
     survey(map, &mut mates, &mut areas, &mut points);
-    count_from(map, &mates, &areas, area, f)
+    count_from(map, &mates, &areas, area, n, f)
 }
 
 // Along the area's walk, from its first position f: each side leads across to an area, which counts unless it was met before.
-// The area itself counts as met from the beginning. The walk leads to higher positions until the area's last.
-fn count_from(map: &[u8], mates: &[u16], areas: &[u16], area: Area, f: usize) -> usize
+// The area itself counts as met from the beginning. The walk leads to higher positions until the area's last. Of more than
+// `most` sides the others are not crossed: then a number that is too high for a count is answered.
+fn count_from(map: &[u8], mates: &[u16], areas: &[u16], area: Area, most: usize, f: usize) -> usize
     requires { ⌜ Start (now map) (area .0) f × Mates (now map) (now mates) × Numbers square (now map) (now areas) ⌝ }
-    ensures { λ r. ⌜ r ≡ neighboursAt (now (map .entry)) (area .0) ⌝ }
+    ensures { λ r. ⌜ Early (bitsA (sizeIn (now (map .entry)))) most (neighboursAt (now (map .entry)) (area .0)) r ⌝ }
 {
-    let mut met = [0u8; FLAGS];
+    let n = bits_a(map);
     let own = area.0;
+    let mut met = [0u8; FLAGS];
     met[own] = 1;
     let mut others = 0;
     let mut p = f;
-    loop {
+    let mut left = most;
+    let found = loop {
+        if left == 0 {
+            break n + 1;
+        }
         let q = crossing_in(map, mates, p);
         let across = area_in(map, areas, q);
         let k = across.0;
@@ -75,9 +81,10 @@ fn count_from(map: &[u8], mates: &[u16], areas: &[u16], area: Area, f: usize) ->
         met[k] = 1;
         let r = step_past(map, Family::Square, p, q);
         if r <= p {
-            break;
+            break others;
         }
         p = r;
-    }
-    others
+        left -= 1;
+    };
+    found
 }

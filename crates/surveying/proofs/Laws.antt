@@ -6,6 +6,7 @@
 -- listed-size     == the degree of a point (the sides of an area): how many entries have its number
 -- listed-first    == its first position: the first entry that has its number
 -- listed-across   == the area (the point) across a place: the number at its mate
+-- early-is, early-full == what is not beyond n is the answer; it is one if all places may be looked at
 -- In turning order, or along the area's walk, its positions come in rising order (`walk-rises`, `walk-returns` of `words`).
 -- Assumes nothing.
 use mathlib.Core.Path.{_≡_, sym, ap, _∙_}
@@ -29,7 +30,7 @@ use Rattle.drawing.specs.Laid.{laid}
 use Rattle.format.specs.Bytes.{sizeIn, bitsA, wordIn}
 use Rattle.format.specs.Open.{openRefusal}
 use Rattle.walking.proofs.Decoded.{nested, places-most}
-use Rattle.surveying.specs.Surveyed.{matesIn, numbersIn, Mates, Numbers}
+use Rattle.surveying.specs.Surveyed.{matesIn, numbersIn, Mates, Numbers, Early}
 
 module _ (f : ℕ → ℕ) (n : ℕ) (old : List ℕ) where
   pub laid-here : (p : ℕ) → p < n → getD (laid (table f n) old) p 0 ≡ f p
@@ -109,3 +110,11 @@ module _ (s old l : List ℕ) (O : openRefusal s ≡ 0) (h : length old ≡ 4096
   pub numbers-long : (K : Family) → l ≡ laid (numbersIn K s) old → 4096 ≡ length l
   unfolding numbersIn
   numbers-long K e = laid-long (number (seen K (wordIn s))) e
+
+-- ---- few places by walking, or all of them
+module _ (m n most x r : ℕ) (hn : m ≡ n) (E : Early n most x r) where
+  pub early-is : r ≤ m → r ≡ x
+  early-is h = E .is (omega arith)
+
+  pub early-full : most ≡ m → r ≡ x
+  early-full e = E .is (E .enough (omega arith))

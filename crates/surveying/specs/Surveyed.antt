@@ -4,10 +4,11 @@
 -- numbersIn K s == the number of each place's point (K round) or area (K square)
 -- Mates s l     == what l has for a position is its mate
 -- Numbers K s l == what l has for a position is the number of its point (area)
+-- Early n most x r == r answers x, or says by a number beyond n that more than `most` of n places would have to be looked at
 -- Assumes nothing.
 use mathlib.Core.Path.{_≡_}
 use mathlib.Core.List.{List}
-use Prim.Native.Nat.{ℕ, _<_}
+use Prim.Native.Nat.{ℕ, _<_, _≤_}
 use lib.ListN.{length, getD}
 use Rattle.count.specs.Below.{table}
 use Rattle.words.specs.Brackets.{number}
@@ -31,3 +32,7 @@ pub record Mates (s l : List ℕ) : Type 0 where
 
 pub record Numbers (K : Family) (s l : List ℕ) : Type 0 where
   pub at : (p : ℕ) → p < bitsA (sizeIn s) → p < length l → getD l p 0 ≡ number (seen K (wordIn s)) p
+
+pub record Early (n most x r : ℕ) : Type 0 where
+  pub is : r ≤ n → r ≡ x
+  pub enough : n ≤ most → r ≤ n

@@ -4,19 +4,22 @@
 -- mate-own, mate-own-at, mate-other == the partner of a position of the family, and of one of the other family
 -- cross-is, mate-crossed      == the crossing is the partner in the position's own family
 -- after-next, after-last, after-below, after-few == the position after one, and what is asked for it
+-- sum-mate, sum-at            == the partner in a family, by a sum of the crossing and the position itself
+-- own-fits, other-fits, sum-fits == the numbers that make it up
 -- step-is, step-position      == the step is the position after the partner
 -- number-is-rank              == the number
 -- Firsts                      == what holds of the first position of a number
 -- first-holds, first-one, first-more == it holds of `first`, which is 0 for number 1, else after the opening that reaches it
 -- first-at                == it is a position
 -- Assumes nothing.
-use mathlib.Core.Path.{_≡_, refl, sym, ap, _∙_}
+use mathlib.Core.Path.{_≡_, refl, sym, ap, _∙_, subst}
+use mathlib.Core.Logic.{inl, inr}
 use mathlib.Core.List.{List}
-use Prim.Native.Nat.{ℕ, _+_, _-_, _<_, _≤_}
+use Prim.Native.Nat.{ℕ, _+_, _-_, _*_, _%_, _<_, _≤_}
 use native.Mathlib.Omega.{arith}
 use borrow.Author.Tests.{eq-eqb, ne-eqb}
 use lib.Dec.{eqb}
-use Rattle.count.proofs.Logic.{pick-yes, pick-no}
+use Rattle.count.proofs.Logic.{same-or-not, pick-yes, pick-no}
 use Rattle.words.specs.Brackets.{inner, mate, next, step, number, first}
 use Rattle.words.specs.declared.family.Family.{Family}
 use Rattle.words.specs.declared.family.Family.the-variants.{Round as round, Square as square}
@@ -118,6 +121,57 @@ unfolding crossing wordIn
 mate-crossed s K p a v x r ha hx hv e h =
     let f : K ≡ wordIn s .letter p .family = own-family s K p x (hx ∙ ap (λ y. bit y p) ha) (e ∙ hv) in
     h ∙ sym (ap (λ X. mate (seen X (wordIn s)) (bitsA (sizeIn s)) p) f)
+
+-- ---- the partner by a sum: o is 0 where the letter is of the family, else 1
+module _ (o p q : ℕ) where
+  sum-own : o ≡ 0 → ((1 - o) * q ≡ q) × (o * p ≡ 0)
+  sum-own z = (ap (λ y. (1 - y) * q) z ∙ omega arith, ap (λ y. y * p) z ∙ omega arith)
+
+  sum-other : o ≡ 1 → ((1 - o) * q ≡ 0) × (o * p ≡ p)
+  sum-other z = (ap (λ y. (1 - y) * q) z ∙ omega arith, ap (λ y. y * p) z ∙ omega arith)
+
+  sum-most : o < 2 → ((1 - o) * q ≤ q) × (o * p ≤ p)
+  sum-most l =
+      elim (same-or-not o 0) [
+        | inl z ↦ (omega (arith, sum-own z .0), omega (arith, sum-own z .1))
+        | inr d ↦ let z : o ≡ 1 = omega arith in (omega (arith, sum-other z .0), omega (arith, sum-other z .1))
+      ]
+
+module _ (s : List ℕ) (p q : ℕ) (P : Position s p) (Q : Position s q) (v x : ℕ) (lv : v < 2) (lx : x < 2) where
+  abbrev o : ℕ
+  o = (x + v) % 2
+
+  most : ((1 - o) * q ≤ q) × (o * p ≤ p)
+  most = sum-most o p q (omega arith)
+
+  pub own-fits : (1 - (x + v) % 2) * q < 18446744073709551616
+  own-fits = omega (arith, most .0, Q .few)
+
+  pub other-fits : (x + v) % 2 * p < 18446744073709551616
+  other-fits = omega (arith, most .1, P .few)
+
+  pub sum-fits : (1 - (x + v) % 2) * q + (x + v) % 2 * p < 18446744073709551616
+  sum-fits = omega (arith, most .0, most .1, P .few, Q .few)
+
+  module _ (K : Family) (C : q ≡ crossing (wordIn s) p) (a : List ℕ) (hv : v ≡ familyBit K) (ha : a ≡ partA s) (hx : x ≡ bit a p) where
+    sum-is : ((1 - o) * q + o * p ≡ mate (seen K (wordIn s)) (bitsA (sizeIn s)) p) × Position s ((1 - o) * q + o * p)
+    sum-is =
+        elim (same-or-not x v) [
+          | inl e ↦
+              let z = sum-own o p q (omega arith) in
+              let r : (1 - o) * q + o * p ≡ q = omega (arith, z .0, z .1) in
+              (r ∙ mate-crossed s K p a v x q ha hx hv e C, subst (Position s) (sym r) Q)
+          | inr d ↦
+              let z = sum-other o p q (omega arith) in
+              let r : (1 - o) * q + o * p ≡ p = omega (arith, z .0, z .1) in
+              (r ∙ mate-other s K p P a v x hv ha hx d, subst (Position s) (sym r) P)
+        ]
+
+    pub sum-mate : (1 - (x + v) % 2) * q + (x + v) % 2 * p ≡ mate (seen K (wordIn s)) (bitsA (sizeIn s)) p
+    sum-mate = sum-is .0
+
+    pub sum-at : Position s ((1 - (x + v) % 2) * q + (x + v) % 2 * p)
+    sum-at = sum-is .1
 
 -- ---- the first position of a number
 pub record Firsts (s : List ℕ) (K : Family) (k f : ℕ) : Type 0 where

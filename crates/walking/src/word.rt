@@ -73,14 +73,15 @@ pub fn step_past(map: &[u8], family: Family, p: usize, q: usize) -> usize
     after(bits_a(map), mate_of(map, family, p, q))
 }
 
-// The partner of p in a family, from q, its partner in its own. A choice between two numbers and no jump: which of the two it is
-// can't be foreseen.
+// The partner of p in a family, from q, its partner in its own: `other` is 1 where p is of the other family. A sum and no jump:
+// which of the two it is can't be foreseen.
 fn mate_of(map: &[u8], family: Family, p: usize, q: usize) -> usize
     requires { ⌜ Position (now map) p × Position (now map) q × (q ≡ crossing (wordIn (now map)) p) ⌝ }
     ensures { λ r. ⌜ r ≡ mate (seen family (wordIn (now (map .entry)))) (bitsA (sizeIn (now (map .entry)))) p ⌝ }
     ensures { λ r. ⌜ Position (now (map .entry)) r ⌝ }
 {
-    if bits::bit(part_a(map), p) == family_bit(family) { q } else { p }
+    let other = (bits::bit(part_a(map), p) + family_bit(family)) % 2;
+    (1 - other) * q + other * p
 }
 
 // The position after q, of n; 0 after the last.

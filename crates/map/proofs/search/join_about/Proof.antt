@@ -1,5 +1,5 @@
 -- `map::search::join_about` meets its contract. Assumes nothing.
-use Rattle.map.proofs.Joins.{found-early}
+use Rattle.surveying.proofs.Laws.{early-is}
 use borrow.Author.Needs.{needs}
 use Rattle.map.proofs.search.join_about.Statement.{statement}
 use Rattle.map.proofs.search.join_about.Tie as tie
@@ -20,7 +20,7 @@ join-from-requires : tie.Need-join-from-requires
 join-from-requires c κs = search needs
 
 returns : tie.Need-returns
-returns c = search found-early
+returns c = search early-is
 
 join-surveyed-requires : tie.Need-join-surveyed-requires
 join-surveyed-requires c κs = search needs

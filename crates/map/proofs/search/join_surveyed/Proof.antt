@@ -1,6 +1,5 @@
 -- `map::search::join_surveyed` meets its contract. Assumes nothing.
-use Rattle.surveying.proofs.Laws.{mates-long, numbers-long}
-use Rattle.map.proofs.Joins.{found-full}
+use Rattle.surveying.proofs.Laws.{mates-long, numbers-long, early-full}
 use borrow.Author.Needs.{needs}
 use Rattle.map.proofs.search.join_surveyed.Statement.{statement}
 use Rattle.map.proofs.search.join_surveyed.Tie as tie
@@ -18,7 +17,7 @@ join-from-requires : tie.Need-join-from-requires
 join-from-requires c κs = search needs
 
 returns : tie.Need-returns
-returns c = search found-full
+returns c = search early-full
 
 pub join-surveyed-spec : {M : Type 1} → statement M
 join-surveyed-spec =

@@ -1,22 +1,26 @@
 -- `neighbouring::across::count_from` meets its contract. The loop keeps `Counting`: the sides before position p are counted. Assumes nothing.
-use Prim.Native.Nat.{_-_}
 use borrow.Author.Needs.{needs}
-use Rattle.format.specs.Bytes.{sizeIn, bitsA}
-use Rattle.neighbouring.proofs.Counting.{Counting, own-index, across-index, flag-most, others-fit, counting-start, counting-on, counting-end}
+use Rattle.neighbouring.proofs.Counting.{Counting, own-index, across-index, flag-most, others-fit, counting-start, counting-on, counting-more, counting-end}
 use Rattle.neighbouring.proofs.across.count_from.Statement.{statement}
 use Rattle.neighbouring.proofs.across.count_from.Tie as tie
 
 abbrev Inv-loop : tie.InvT-loop
-Inv-loop map mates areas f met₀ own others₀ p₀ met others p = Counting map own f p others met
+Inv-loop map mates areas most f n own met₀ others₀ p₀ left₀ met others p left = Counting map own f most p others left met
 
 abbrev μ-loop : tie.MeasureT-loop
-μ-loop map mates areas f met₀ own others₀ p₀ met others p = bitsA (sizeIn map) - p
+μ-loop map mates areas most f n own met₀ others₀ p₀ left₀ met others p left = left
+
+bits-a-requires : tie.Need-bits-a-requires Inv-loop μ-loop
+bits-a-requires c κs = search needs
 
 array-write-met : tie.Need-array-write-met Inv-loop μ-loop
 array-write-met c = search own-index
 
 loop-holds : tie.Need-loop-holds Inv-loop μ-loop
-loop-holds c = counting-start _ _ _ (c .before .before .before .pre .0)
+loop-holds c = counting-start _ _ _ _ (c .before .before .before .before .pre .0)
+
+add-found : tie.Need-add-found Inv-loop μ-loop
+add-found c = search needs
 
 crossing-in-requires : tie.Need-crossing-in-requires Inv-loop μ-loop
 crossing-in-requires c κs = search needs
@@ -42,6 +46,9 @@ array-write-met-2 c = search across-index
 step-past-requires : tie.Need-step-past-requires Inv-loop μ-loop
 step-past-requires c κs = search needs
 
+sub-left : tie.Need-sub-left Inv-loop μ-loop
+sub-left c = search needs
+
 loop-less : tie.Need-loop-less Inv-loop μ-loop
 loop-less c = search needs
 
@@ -49,7 +56,10 @@ loop-again : tie.Need-loop-again Inv-loop μ-loop
 loop-again c = search counting-on
 
 returns : tie.Need-returns Inv-loop μ-loop
-returns c = search counting-end
+returns c = search counting-more
+
+returns-2 : tie.Need-returns-2 Inv-loop μ-loop
+returns-2 c = search counting-end
 
 pub count-from-spec : {M : Type 1} → statement M
 count-from-spec =
@@ -57,8 +67,10 @@ count-from-spec =
     (tie.spec
     Inv-loop
     μ-loop
+    bits-a-requires
     array-write-met
     loop-holds
+    add-found
     crossing-in-requires
     area-in-requires
     array-read-others
@@ -67,6 +79,8 @@ count-from-spec =
     add-others
     array-write-met-2
     step-past-requires
+    sub-left
     loop-less
     loop-again
-    returns)
+    returns
+    returns-2)

@@ -1,6 +1,6 @@
 -- `neighbouring::across::count_surveyed` meets its contract. Assumes nothing.
 use borrow.Author.Needs.{needs}
-use Rattle.surveying.proofs.Laws.{mates-long, numbers-long}
+use Rattle.surveying.proofs.Laws.{mates-long, numbers-long, early-full}
 use Rattle.neighbouring.proofs.across.count_surveyed.Statement.{statement}
 use Rattle.neighbouring.proofs.across.count_surveyed.Tie as tie
 
@@ -17,7 +17,7 @@ count-from-requires : tie.Need-count-from-requires
 count-from-requires c κs = search needs
 
 returns : tie.Need-returns
-returns c = search needs
+returns c = search early-full
 
 pub count-surveyed-spec : {M : Type 1} → statement M
 count-surveyed-spec =
