@@ -4,6 +4,7 @@
 -- turn-zero-in == where a turn and a turn back answer 0, on bytes that open
 -- cell-counts  == points and areas are m + 2 in all, and the sizes of each add up to 2m
 -- known-numbers == the numbers that the book knows are those that some end has
+-- answer-is, at-place, number-range-is == an answer tells its number; the answer at a place; the numbers that the book knows, as a range
 -- Assumes nothing.
 use mathlib.Core.Path.{_≡_, refl, sym, ap, ap₂, _∙_}
 use mathlib.Core.Logic.{_≢_, _⊎_, inl, inr, _↔_, Iff·trans}
@@ -45,11 +46,11 @@ use Rattle.words.proofs.Crossing.{mate-own, by-family}
 use Rattle.demands.specs.Statements.{CellCounts, HasNumber, LastPlace, FirstPlace, TurnZero}
 use Rattle.demands.proofs.Answers.{opens-opened, packed-call}
 
-answer-is : (a b : ℕ) → answer a ≡ answer b → a ≡ b
+pub answer-is : (a b : ℕ) → answer a ≡ answer b → a ≡ b
 answer-is a b e = cc
 
 -- the answer at a place of the word
-at-place : (w : Word) (c : Call) (p : ℕ) → p < w .size → atPlace w c (suc p) ≡ answer (moveIn w c p)
+pub at-place : (w : Word) (c : Call) (p : ℕ) → p < w .size → atPlace w c (suc p) ≡ answer (moveIn w c p)
 unfolding atPlace
 at-place w c p l =
     pick-yes (ltb 0 (suc p) && leb (suc p) (w .size)) (answer (moveIn w c p)) (refused 13)
@@ -198,7 +199,7 @@ cell-counts {D} T =
 
 -- a number of a point (area) is the number of some end
 module _ {D : Drawing} (T : Toured D) (c : Kind) where
-  number-range-is : (k : ℕ) → (hasNumber D c k ≡ true) ↔ ((1 ≤ k) × (k ≤ 1 + openings (cellWord D c) (ends D)))
+  pub number-range-is : (k : ℕ) → (hasNumber D c k ≡ true) ↔ ((1 ≤ k) × (k ≤ 1 + openings (cellWord D c) (ends D)))
   number-range-is k =
       let d = decides-both (decides-lt 0 k) (decides-le k (1 + openings (cellWord D c) (ends D))) in
       let e = numbers-agree T c k in

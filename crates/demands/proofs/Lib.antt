@@ -9,3 +9,4 @@ pub mod Calls
 pub mod Cells
 pub mod Schedule
 pub mod Demands
+pub mod Neighbours

@@ -1,2 +1,3 @@
 -- The demands of document 01: what each theorem says.
 pub mod Statements
+pub mod Neighbours

@@ -2,9 +2,8 @@
 --
 -- across-is       == the test decides it
 -- across-mutual   == where crossing twice leads back, j is across a side of k exactly if k is across a side of j
--- neighbours-le   == no more neighbours than areas
--- neighbours-most == no more neighbours than sides
 -- neighbours-none == none exactly if nothing but the area itself is across its sides
+-- neighbours-le, neighbours-most == no more neighbours than areas, and no more than sides
 -- neighbours-same == accounts that are one another's, renamed, count the same neighbours
 -- Assumes nothing.
 use mathlib.Core.Path.{_≡_, refl, sym, ap, _∙_}
@@ -48,9 +47,30 @@ module _ (area cross : ℕ → ℕ) (n : ℕ) where
     abbrev counts : ℕ → Bool
     counts i = not (eqb (suc i) k) && isAcross area cross n k (suc i)
 
+    pub neighbours-none : ((p : ℕ) → p < n → (1 ≤ area (cross p)) × (area (cross p) ≤ v))
+        → (neighbours area cross n v k ≡ 0) ↔ ((j : ℕ) → Across area cross n k j → j ≡ k)
+    unfolding neighbours
+    neighbours-none range = (
+      λ z j x.
+          let r = range (x .side) (x .below) in
+          let i : suc (pred j) ≡ j = omega (arith, x .there) in
+          elim (same-or-not j k) [
+            | inl e ↦ e
+            | inr d ↦
+                let t = both (not (eqb j k)) (isAcross area cross n k j) (ap not (ne-eqb j k d)) (across-is k j .complete x) in
+                let c : counts (pred j) ≡ true = ap (λ y. not (eqb y k) && isAcross area cross n k y) i ∙ t in
+                absurd (omega (arith, x .there, count-before counts (pred j) v (omega (arith, x .there)) c))
+          ],
+      λ own.
+          count-none counts v
+          (λ i l.
+          not-both (not (eqb (suc i) k)) (isAcross area cross n k (suc i))
+          (λ d t. let e = eq-eqb (suc i) k (own (suc i) (across-is k (suc i) .sound t)) in true-not-false (not true) (ap not (sym e) ∙ d) refl)),
+    )
+
     pub neighbours-le : neighbours area cross n v k ≤ v
     unfolding neighbours
-    neighbours-le = count-le counts v
+    neighbours-le = count-le _ v
 
     -- a neighbour is across some side, and the first such side tells which neighbour it is
     side : ℕ → ℕ
@@ -75,27 +95,6 @@ module _ (area cross : ℕ → ℕ) (n : ℕ) where
         (λ i l t. side-of i t .0)
         (λ i l t. both-left (eqb (area (side i)) k) (eqb (area (cross (side i))) (suc i)) (side-of i t .1))
         (λ i h l m t u e. let s : suc i ≡ suc h = sym (beyond i t) ∙ ap (λ p. area (cross p)) e ∙ beyond h u in omega arith)
-
-    pub neighbours-none : ((p : ℕ) → p < n → (1 ≤ area (cross p)) × (area (cross p) ≤ v))
-        → (neighbours area cross n v k ≡ 0) ↔ ((j : ℕ) → Across area cross n k j → j ≡ k)
-    unfolding neighbours
-    neighbours-none range = (
-      λ z j x.
-          let r = range (x .side) (x .below) in
-          let i : suc (pred j) ≡ j = omega (arith, x .there) in
-          elim (same-or-not j k) [
-            | inl e ↦ e
-            | inr d ↦
-                let t = both (not (eqb j k)) (isAcross area cross n k j) (ap not (ne-eqb j k d)) (across-is k j .complete x) in
-                let c : counts (pred j) ≡ true = ap (λ y. not (eqb y k) && isAcross area cross n k y) i ∙ t in
-                absurd (omega (arith, x .there, count-before counts (pred j) v (omega (arith, x .there)) c))
-          ],
-      λ own.
-          count-none counts v
-          (λ i l.
-          not-both (not (eqb (suc i) k)) (isAcross area cross n k (suc i))
-          (λ d t. let e = eq-eqb (suc i) k (own (suc i) (across-is k (suc i) .sound t)) in true-not-false (not true) (ap not (sym e) ∙ d) refl)),
-    )
 
 -- an account of the ends, and one of their positions: `at p` is the end at position p, `to h` the position of end h
 module _ (area cross area′ cross′ at to : ℕ → ℕ) (n : ℕ)

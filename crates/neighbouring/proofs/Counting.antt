@@ -1,7 +1,7 @@
 -- The loop along the walk of an area.
 --
 -- Counting        == what the loop of `count_from` keeps: the sides before position p are counted
--- own-index, across-index, flag-most, others-fit == there is a flag for the area, and what is stored fits
+-- own-index, area-index, flag-most, others-fit == there is a flag for the area, and what is stored fits
 -- counting-start, counting-on == at the first side, from one side to the next
 -- counting-end    == after the last
 -- counting-more   == nothing is counted where more sides are left than are crossed
@@ -132,6 +132,24 @@ module _ (s : List ℕ) (k f most : ℕ) where
   counting-more p others left met n C e z =
       record { is = λ h. absurd (omega arith); enough = λ h. absurd (omega (arith, C .room h, C .at .below)) }
 
+  -- ---- the flag of any area
+  module _ (q j : ℕ) (Q : Position s q) (hj : j ≡ areaAt q) where
+    area-range : (1 ≤ j) × (j ≤ areasOf)
+    area-range = (
+      omega (arith, number-positive brackets q),
+      omega (arith, number-range brackets (bitsA (sizeIn s)) q (Q .below), cells-numbers s Kind.area (Q .opens)),
+    )
+
+    pub area-index : j < 2050
+    area-index = omega (arith, area-range, areas-most (Q .opens))
+
+    module _ (p others left : ℕ) (met : List ℕ) (C : Counting p others left met) where
+      pub flag-most : getD met j 0 ≤ 1
+      flag-most = omega (arith, C .flags j (area-range .1), flag-le (metBefore p j))
+
+      pub others-fit : others + (1 - getD met j 0) < 18446744073709551616
+      others-fit = omega (arith, C .count, neighbours-le areaAt (crossing (wordIn s)) p areasOf k, areas-most (Q .opens))
+
   -- ---- one side, at position p, with area j across it
   module _ (p others left : ℕ) (met : List ℕ) (C : Counting p others left met) (q j : ℕ) (hq : q ≡ crossing (wordIn s) p) (hj : j ≡ areaAt q) where
     own : areaAt p ≡ k
@@ -141,23 +159,8 @@ module _ (s : List ℕ) (k f most : ℕ) where
     across = ap areaAt (sym hq) ∙ sym hj
 
     module _ (Q : Position s q) where
-      across-range : (1 ≤ j) × (j ≤ areasOf)
-      across-range = (
-        omega (arith, number-positive brackets q),
-        omega (arith, number-range brackets (bitsA (sizeIn s)) q (Q .below), cells-numbers s Kind.area (Q .opens)),
-      )
-
-      pub across-index : j < 2050
-      across-index = omega (arith, across-range, areas-most (Q .opens))
-
       met-flag : getD met j 0 ≡ flag (metBefore p j)
-      met-flag = C .flags j (across-range .1)
-
-      pub flag-most : getD met j 0 ≤ 1
-      flag-most = omega (arith, met-flag, flag-le (metBefore p j))
-
-      pub others-fit : others + (1 - getD met j 0) < 18446744073709551616
-      others-fit = omega (arith, C .count, neighbours-le areaAt (crossing (wordIn s)) p areasOf k, areas-most (Q .opens))
+      met-flag = C .flags j (area-range q j Q hj .1)
 
       -- no other side lies before position r
       module _ (r : ℕ) (l : p < r) (gap : (x : ℕ) → p < x → x < r → inner brackets x ≢ inner brackets p) where
@@ -180,7 +183,7 @@ module _ (s : List ℕ) (k f most : ℕ) where
                   let m : N r ≡ N p + 1 = neighbours-new areaAt (crossing (wordIn s)) k p r l own gap-areas areasOf
                   (λ y. eqb-false j k (c .0) (sym across ∙ y))
                   (ap (isAcross areaAt (crossing (wordIn s)) p k) across ∙ c .1)
-                  (omega (arith, across, across-range)) (omega (arith, across, across-range)) in
+                  (omega (arith, across, area-range q j Q hj)) (omega (arith, across, area-range q j Q hj)) in
                   omega (arith, C .count, met-flag ∙ ap flag e)
             ]
 
@@ -189,7 +192,7 @@ module _ (s : List ℕ) (k f most : ℕ) where
             elim (same-or-not i j) [
               | inl e ↦
                   ap (λ x. getD (set met j 1) x 0) e
-                  ∙ getD-set-same met j 1 0 (omega (arith, across-index, C .long))
+                  ∙ getD-set-same met j 1 0 (omega (arith, area-index q j Q hj, C .long))
                   ∙ sym (ap flag (either-right (eqb i k) (isAcross areaAt (crossing (wordIn s)) r k i)
                   (ap (isAcross areaAt (crossing (wordIn s)) r k) (e ∙ sym across)
                   ∙ across-there areaAt (crossing (wordIn s)) k p r l own gap-areas)))

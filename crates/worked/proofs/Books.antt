@@ -1,11 +1,12 @@
--- The book against the packed map on small drawings, by computation: every call at every place, and a session. Assumes nothing.
+-- The book against the packed map on small drawings, by computation: sessions, and answers about points and areas; 02, 3/14: the three
+-- borders of the triangle count as one neighbour, and the stub's area is no neighbour of its own. Assumes nothing.
 use mathlib.Core.Path.{_≡_, refl}
 use mathlib.Core.List.{List, [], _∷_}
 use Rattle.drawing.specs.Drawing.{Kind}
 use Rattle.drawing.specs.Session.{Call, answer, refused}
 use Rattle.drawing.specs.Book.{bookSession, bookFirst, bookSize, bookNeighbours, bookJoining}
 use Rattle.format.specs.Calls.{mapSession, firstOf, sizeOf, neighboursOf, joiningOf}
-use Rattle.worked.specs.Cases.{enclave, enclaveMap, triangle, triangleMap}
+use Rattle.worked.specs.Cases.{empty, stub, enclave, enclaveMap, triangle, triangleMap}
 
 -- round the outside of the triangle, past the end of a point, and on with a 0
 abbrev calls : List Call
@@ -19,6 +20,10 @@ pub record SmallBooks : Type 0 where
   pub triangle-first : bookFirst triangle Kind.area 2 ≡ firstOf triangleMap Kind.area 2
   pub triangle-degree : bookSize triangle Kind.point 3 ≡ sizeOf triangleMap Kind.point 3
   pub triangle-neighbours : bookNeighbours triangle 2 ≡ neighboursOf triangleMap 2
+  pub triangle-counted-once : bookNeighbours triangle 2 ≡ answer 1
+  pub stub-itself : bookNeighbours stub 1 ≡ answer 0
+  pub enclave-neighbour : bookNeighbours enclave 2 ≡ answer 1
+  pub empty-none : bookNeighbours empty 1 ≡ answer 0
   pub triangle-joining : bookJoining triangle 1 3 ≡ joiningOf triangleMap 1 3
   pub triangle-no-loop : bookJoining triangle 2 2 ≡ answer 0
   pub enclave-loop : bookJoining enclave 1 1 ≡ joiningOf enclaveMap 1 1
@@ -34,6 +39,10 @@ small-books =
       triangle-first = refl;
       triangle-degree = refl;
       triangle-neighbours = refl;
+      triangle-counted-once = refl;
+      stub-itself = refl;
+      enclave-neighbour = refl;
+      empty-none = refl;
       triangle-joining = refl;
       triangle-no-loop = refl;
       enclave-loop = refl;

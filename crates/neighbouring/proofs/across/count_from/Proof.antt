@@ -1,6 +1,6 @@
 -- `neighbouring::across::count_from` meets its contract. The loop keeps `Counting`: the sides before position p are counted. Assumes nothing.
 use borrow.Author.Needs.{needs}
-use Rattle.neighbouring.proofs.Counting.{Counting, own-index, across-index, flag-most, others-fit, counting-start, counting-on, counting-more, counting-end}
+use Rattle.neighbouring.proofs.Counting.{Counting, own-index, area-index, flag-most, others-fit, counting-start, counting-on, counting-more, counting-end}
 use Rattle.neighbouring.proofs.across.count_from.Statement.{statement}
 use Rattle.neighbouring.proofs.across.count_from.Tie as tie
 
@@ -29,7 +29,7 @@ area-in-requires : tie.Need-area-in-requires Inv-loop μ-loop
 area-in-requires c κs = search needs
 
 array-read-others : tie.Need-array-read-others Inv-loop μ-loop
-array-read-others c = search across-index
+array-read-others c = search area-index
 
 sub-others : tie.Need-sub-others Inv-loop μ-loop
 sub-others c = search flag-most
@@ -41,7 +41,7 @@ add-others : tie.Need-add-others Inv-loop μ-loop
 add-others c = search others-fit
 
 array-write-met-2 : tie.Need-array-write-met-2 Inv-loop μ-loop
-array-write-met-2 c = search across-index
+array-write-met-2 c = search area-index
 
 step-past-requires : tie.Need-step-past-requires Inv-loop μ-loop
 step-past-requires c κs = search needs
