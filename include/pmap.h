@@ -192,7 +192,10 @@ uint8_t pmap_area_first(const uint8_t *map, size_t map_len, size_t area, uint16_
 uint8_t pmap_sides(const uint8_t *map, size_t map_len, size_t area, uint16_t *out);
 
 /*
- * The area's neighbour count, which is its number of sides.
+ * The area's neighbour count: how many other areas lie across at least one of its sides. Each counts once, however many
+ * borders the two share, and the area itself never counts. The area across a side is that of pmap_cross's answer. The
+ * count is at most that of pmap_sides; it is 0 if the map has no borders, or if both sides of each border of the area
+ * are the area's own.
  * Status: 0, 8, 9, 10, 11, 12, 15.
  */
 uint8_t pmap_neighbours(const uint8_t *map, size_t map_len, size_t area, uint16_t *out);

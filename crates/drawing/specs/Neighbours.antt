@@ -1,5 +1,6 @@
 -- What lies across the sides of an area (document 02, 3/14), for any account of a map that has numbers of areas and crossings: the
--- book has its own, of ends, and so has the bracket word, of positions.
+-- book has its own, of ends, and so has the bracket word, of positions. In the field's words: adjacent faces, and the degree of a
+-- face in the dual graph without its loops and repeated edges.
 --
 -- Here `area p` is the number of the area that the side p, one of n, is of, and `cross p` is the side that crossing it leads to.
 --

@@ -16,10 +16,10 @@ ghost use Rattle.surveying.specs.Surveyed.{Mates, Numbers, Early};
 ghost use Rattle.walking.specs.Positions.{Numbered};
 ghost use Rattle.neighbouring.specs.Counted.{neighboursAt, Start};
 
-// Places that are surveyed in the time of crossing one side by walking, where that takes longest, as measured on many maps.
+// Before a map is surveyed, sides are crossed by walking: one for every so many places,
 const WALK: usize = 512;
 
-// Sides that are crossed by walking in the time that the survey of a small map takes.
+// and so many more. On the largest maps that takes at most half the time of the survey, as measured on many in turn.
 const LEAST: usize = 4;
 
 // One flag for each of the most areas that a map has, 2,049, and one more, since areas count from 1.
