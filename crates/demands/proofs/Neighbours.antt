@@ -27,13 +27,12 @@ use Rattle.words.specs.Brackets.{Balanced, number, size}
 use Rattle.words.specs.declared.family.Family.{Family}
 use Rattle.words.specs.declared.family.Family.the-variants.{Square as square}
 use Rattle.words.specs.Word.{seen, crossing}
-use Rattle.words.proofs.Numbers.{number-positive, number-range}
 use Rattle.words.proofs.Crossing.{crossing-below, crossing-involutive}
-use Rattle.format.specs.Bytes.{sizeIn, bitsA, wordIn}
+use Rattle.format.specs.Bytes.{sizeIn, wordIn}
 use Rattle.format.specs.Open.{openRefusal, afterRefusal, opened}
 use Rattle.format.specs.Calls.{moveIn, atPlace, mapAnswer, crossOf, areaOf, cellsIn, isNumber, placesIn, sizeOf, neighboursIn, neighboursOf}
 use Rattle.format.proofs.Decode.{passes-nested}
-use Rattle.format.proofs.Openings.{cells-numbers}
+use Rattle.format.proofs.Openings.{cells-numbers, number-cells}
 use Rattle.format.proofs.Passes.{opens-passes}
 use Rattle.agreement.specs.Toured.{Toured}
 use Rattle.agreement.proofs.Counts.{cells-agree}
@@ -193,11 +192,7 @@ module _ (s : List ℕ) where
     map-counts =
         let v : ℕ = cellsIn (sizeIn s) Kind.area in
         neighbour-counts area crosses (wordIn s .size) (sizeIn s .m) v
-        (λ p l.
-        let b = crosses-back p l in (
-          number-positive (seen square (wordIn s)) (crosses p),
-          omega (arith, number-range (seen square (wordIn s)) (bitsA (sizeIn s)) (crosses p) (b .0), cells-numbers s Kind.area o),
-        ))
+        (λ p l. number-cells s o Kind.area (crosses p) (crosses-back p l .0))
         (MapAcross s) map-across (neighboursOf s) (sizeOf s Kind.area) (isNumber (sizeIn s) Kind.area)
         (λ k. opens-opened s (pick (isNumber (sizeIn s) Kind.area k) (answer (neighboursIn (wordIn s) v k)) (refused 15)) o)
         (λ k. opens-opened s (pick (isNumber (sizeIn s) Kind.area k) (answer (placesIn (wordIn s) Kind.area k)) (refused 15)) o)

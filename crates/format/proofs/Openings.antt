@@ -3,17 +3,19 @@
 -- openings-ranks  == as many of a family open as its string has zeros
 -- half-open       == which are half of its bits
 -- cells-openings  == there is one point (area) more than openings
--- cells-numbers   == the same of the word: its numbers go from 1 to as many
+-- cells-numbers, number-cells == the same of the word: its numbers go from 1 to as many
+-- areas-most      == no map has more than 2,049 areas
 -- Assumes nothing.
 use mathlib.Core.Path.{_≡_, sym, ap, _∙_}
 use mathlib.Core.List.{List}
-use Prim.Native.Nat.{ℕ, _+_, _*_}
+use Prim.Native.Nat.{ℕ, _+_, _*_, _<_, _≤_}
 use native.Mathlib.Omega.{arith}
 use Rattle.words.specs.declared.family.Family.{Family}
 use Rattle.words.specs.declared.family.Family.the-variants.{Round as round, Square as square}
+use Rattle.words.specs.Brackets.{number}
 use Rattle.words.specs.Word.{seen}
 use Rattle.words.proofs.Halves.{openings-half-all}
-use Rattle.words.proofs.Numbers.{openings}
+use Rattle.words.proofs.Numbers.{openings, number-positive, number-range}
 use Rattle.words.proofs.Openings.{thin-openings}
 use Rattle.bits.specs.Strings.{isBit, rank, brackets}
 use Rattle.bits.proofs.Laws.{bracket-cases, rank-openings}
@@ -48,3 +50,13 @@ cells-openings s Kind.area o = omega (arith, half-open s square o, opens-passes 
 pub cells-numbers : (s : List ℕ) (c : Kind) → openRefusal s ≡ 0
     → 1 + openings (seen (familyOfKind c) (wordIn s)) (bitsA (sizeIn s)) ≡ cellsIn (sizeIn s) c
 cells-numbers s c o = let e = openings-ranks s (familyOfKind c) o in let f = cells-openings s c o in omega arith
+
+module _ (s : List ℕ) (o : openRefusal s ≡ 0) where
+  pub number-cells : (c : Kind) (p : ℕ) → p < bitsA (sizeIn s)
+      → (1 ≤ number (seen (familyOfKind c) (wordIn s)) p) × (number (seen (familyOfKind c) (wordIn s)) p ≤ cellsIn (sizeIn s) c)
+  number-cells c p l =
+      let b = seen (familyOfKind c) (wordIn s) in
+      (number-positive b p, omega (arith, number-range b (bitsA (sizeIn s)) p l, cells-numbers s c o))
+
+  pub areas-most : cellsIn (sizeIn s) Kind.area ≤ 2049
+  areas-most = omega (arith, opens-passes s o .m-most, opens-passes s o .n-least)

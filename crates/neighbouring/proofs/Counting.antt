@@ -25,16 +25,14 @@ use Rattle.words.specs.declared.family.Family.the-variants.{Square as square}
 use Rattle.words.specs.Word.{seen, crossing}
 use Rattle.words.proofs.Stack.{inner-le}
 use Rattle.words.proofs.Step.{inner-step}
-use Rattle.words.proofs.Numbers.{inner-number, number-inner, number-positive, number-range}
+use Rattle.words.proofs.Numbers.{inner-number, number-inner}
 use Rattle.words.proofs.Order.{walk-rises, walk-returns}
 use Rattle.drawing.specs.Drawing.{Kind}
 use Rattle.drawing.specs.Neighbours.{isAcross, neighbours}
 use Rattle.drawing.proofs.Neighbours.{neighbours-le, neighbours-most}
 use Rattle.format.specs.Bytes.{sizeIn, bitsA, wordIn}
 use Rattle.format.specs.Calls.{cellsIn, neighboursIn}
-use Rattle.format.specs.Open.{openRefusal}
-use Rattle.format.proofs.Passes.{opens-passes}
-use Rattle.format.proofs.Openings.{cells-numbers}
+use Rattle.format.proofs.Openings.{number-cells, areas-most}
 use Rattle.opening.specs.declared.answers.Area.{Area}
 use Rattle.opening.specs.declared.answers.Cell.{Cell}
 use Rattle.walking.specs.Positions.{Position, Numbered}
@@ -56,58 +54,61 @@ neither : (x y : Bool) → x || y ≡ false → (x ≡ false) × (y ≡ false)
 neither true y e = absurd (true-not-false true refl e)
 neither false y e = (refl, e)
 
-module _ (s : List ℕ) (k f most : ℕ) where
+-- ---- a map's account of its areas
+module _ (s : List ℕ) where
   abbrev brackets : ℕ → Bracket
   brackets = seen square (wordIn s)
 
   abbrev areaAt : ℕ → ℕ
   areaAt = number brackets
 
+  abbrev crossAt : ℕ → ℕ
+  crossAt = crossing (wordIn s)
+
   abbrev areasOf : ℕ
   areasOf = cellsIn (sizeIn s) Kind.area
 
+-- ---- the loop
+module _ (s : List ℕ) (k f most : ℕ) where
   -- whether area j was met before position p; the area itself always was
   abbrev metBefore : ℕ → ℕ → Bool
-  metBefore p j = eqb j k || isAcross areaAt (crossing (wordIn s)) p k j
+  metBefore p j = eqb j k || isAcross (areaAt s) (crossAt s) p k j
 
   pub record Counting (p others left : ℕ) (met : List ℕ) : Type 0 where
     pub at : Position s p
     pub from : Start s k f
-    pub of : inner brackets p ≡ inner brackets f
+    pub of : inner (brackets s) p ≡ inner (brackets s) f
     pub long : length met ≡ 2050
-    pub flags : (j : ℕ) → j ≤ areasOf → getD met j 0 ≡ flag (metBefore p j)
-    pub count : others ≡ neighbours areaAt (crossing (wordIn s)) p areasOf k
+    pub flags : (j : ℕ) → j ≤ areasOf s → getD met j 0 ≡ flag (metBefore p j)
+    pub count : others ≡ neighbours (areaAt s) (crossAt s) p (areasOf s) k
     pub room : bitsA (sizeIn s) ≤ most → bitsA (sizeIn s) ≤ p + left
-
-  areas-most : openRefusal s ≡ 0 → areasOf ≤ 2049
-  areas-most o = omega (arith, opens-passes s o .m-most, opens-passes s o .n-least)
 
   -- ---- at the first side
   module _ (S : Start s k f) where
     pub own-index : k < 2050
-    own-index = omega (arith, S .most, areas-most (S .at .opens))
+    own-index = omega (arith, S .most, areas-most s (S .at .opens))
 
-    none-before : (x : ℕ) → x < f → areaAt x ≢ k
+    none-before : (x : ℕ) → x < f → areaAt s x ≢ k
     none-before x l e =
-        let i = number-inner brackets x f (e ∙ sym (S .area)) in
-        omega (arith, S .itself, inner-le brackets x)
+        let i = number-inner (brackets s) x f (e ∙ sym (S .area)) in
+        omega (arith, S .itself, inner-le (brackets s) x)
 
     -- a list of zeros, with the flag of the area itself
     module _ (l : List ℕ) (long : length l ≡ 2050) (zeros : (i : ℕ) → i < 2050 → getD l i 0 ≡ 0) where
       own-flag : getD (set l k 1) k 0 ≡ flag (metBefore f k)
       own-flag =
           getD-set-same l k 1 0 (omega (arith, own-index))
-          ∙ sym (ap flag (either-left (eqb k k) (isAcross areaAt (crossing (wordIn s)) f k k) (eq-eqb k k refl)))
+          ∙ sym (ap flag (either-left (eqb k k) (isAcross (areaAt s) (crossAt s) f k k) (eq-eqb k k refl)))
 
-      begun-flags : (j : ℕ) → j ≤ areasOf → getD (set l k 1) j 0 ≡ flag (metBefore f j)
+      begun-flags : (j : ℕ) → j ≤ areasOf s → getD (set l k 1) j 0 ≡ flag (metBefore f j)
       begun-flags j h =
           elim (same-or-not j k) [
             | inl e ↦ ap (λ x. getD (set l k 1) x 0) e ∙ own-flag ∙ ap (λ x. flag (metBefore f x)) (sym e)
             | inr d ↦
                 getD-set-other l k j 1 0 d
-                ∙ zeros j (omega (arith, areas-most (S .at .opens)))
-                ∙ sym (ap flag (ap (λ t. t || isAcross areaAt (crossing (wordIn s)) f k j) (ne-eqb j k d)
-                ∙ across-none areaAt (crossing (wordIn s)) k f none-before j))
+                ∙ zeros j (omega (arith, areas-most s (S .at .opens)))
+                ∙ sym (ap flag (ap (λ t. t || isAcross (areaAt s) (crossAt s) f k j) (ne-eqb j k d)
+                ∙ across-none (areaAt s) (crossAt s) k f none-before j))
           ]
 
       counting-begun : Counting f 0 most (set l k 1)
@@ -118,7 +119,7 @@ module _ (s : List ℕ) (k f most : ℕ) where
             of = refl;
             long = length-set l k 1 ∙ long;
             flags = begun-flags;
-            count = sym (neighbours-start areaAt (crossing (wordIn s)) k f none-before areasOf);
+            count = sym (neighbours-start (areaAt s) (crossAt s) k f none-before (areasOf s));
             room = λ h. omega arith;
           }
 
@@ -133,86 +134,83 @@ module _ (s : List ℕ) (k f most : ℕ) where
       record { is = λ h. absurd (omega arith); enough = λ h. absurd (omega (arith, C .room h, C .at .below)) }
 
   -- ---- the flag of any area
-  module _ (q j : ℕ) (Q : Position s q) (hj : j ≡ areaAt q) where
-    area-range : (1 ≤ j) × (j ≤ areasOf)
-    area-range = (
-      omega (arith, number-positive brackets q),
-      omega (arith, number-range brackets (bitsA (sizeIn s)) q (Q .below), cells-numbers s Kind.area (Q .opens)),
-    )
+  module _ (q j : ℕ) (Q : Position s q) (hj : j ≡ areaAt s q) where
+    area-range : (1 ≤ j) × (j ≤ areasOf s)
+    area-range = let r = number-cells s (Q .opens) Kind.area q (Q .below) in (omega (arith, r .0), omega (arith, r .1))
 
     pub area-index : j < 2050
-    area-index = omega (arith, area-range, areas-most (Q .opens))
+    area-index = omega (arith, area-range, areas-most s (Q .opens))
 
     module _ (p others left : ℕ) (met : List ℕ) (C : Counting p others left met) where
       pub flag-most : getD met j 0 ≤ 1
       flag-most = omega (arith, C .flags j (area-range .1), flag-le (metBefore p j))
 
       pub others-fit : others + (1 - getD met j 0) < 18446744073709551616
-      others-fit = omega (arith, C .count, neighbours-le areaAt (crossing (wordIn s)) p areasOf k, areas-most (Q .opens))
+      others-fit = omega (arith, C .count, neighbours-le (areaAt s) (crossAt s) p (areasOf s) k, areas-most s (Q .opens))
 
   -- ---- one side, at position p, with area j across it
-  module _ (p others left : ℕ) (met : List ℕ) (C : Counting p others left met) (q j : ℕ) (hq : q ≡ crossing (wordIn s) p) (hj : j ≡ areaAt q) where
-    own : areaAt p ≡ k
-    own = inner-number brackets p f (C .of) ∙ C .from .area
+  module _ (p others left : ℕ) (met : List ℕ) (C : Counting p others left met) (q j : ℕ) (hq : q ≡ crossAt s p) (hj : j ≡ areaAt s q) where
+    own : areaAt s p ≡ k
+    own = inner-number (brackets s) p f (C .of) ∙ C .from .area
 
-    across : areaAt (crossing (wordIn s) p) ≡ j
-    across = ap areaAt (sym hq) ∙ sym hj
+    across : areaAt s (crossAt s p) ≡ j
+    across = ap (areaAt s) (sym hq) ∙ sym hj
 
     module _ (Q : Position s q) where
       met-flag : getD met j 0 ≡ flag (metBefore p j)
       met-flag = C .flags j (area-range q j Q hj .1)
 
       -- no other side lies before position r
-      module _ (r : ℕ) (l : p < r) (gap : (x : ℕ) → p < x → x < r → inner brackets x ≢ inner brackets p) where
-        gap-areas : (x : ℕ) → p < x → x < r → areaAt x ≢ k
-        gap-areas x i h e = gap x i h (number-inner brackets x p (e ∙ sym own))
+      module _ (r : ℕ) (l : p < r) (gap : (x : ℕ) → p < x → x < r → inner (brackets s) x ≢ inner (brackets s) p) where
+        gap-areas : (x : ℕ) → p < x → x < r → areaAt s x ≢ k
+        gap-areas x i h e = gap x i h (number-inner (brackets s) x p (e ∙ sym own))
 
-        more-count : others + (1 - getD met j 0) ≡ neighbours areaAt (crossing (wordIn s)) r areasOf k
+        more-count : others + (1 - getD met j 0) ≡ neighbours (areaAt s) (crossAt s) r (areasOf s) k
         more-count =
-            let N : ℕ → ℕ = λ x. neighbours areaAt (crossing (wordIn s)) x areasOf k in
+            let N : ℕ → ℕ = λ x. neighbours (areaAt s) (crossAt s) x (areasOf s) k in
             elim (true-or-false (metBefore p j)) [
               | inl t ↦
-                  let m : N r ≡ N p = neighbours-met areaAt (crossing (wordIn s)) k p r l own gap-areas areasOf
-                  (elim (one-of (eqb j k) (isAcross areaAt (crossing (wordIn s)) p k j) t) [
+                  let m : N r ≡ N p = neighbours-met (areaAt s) (crossAt s) k p r l own gap-areas (areasOf s)
+                  (elim (one-of (eqb j k) (isAcross (areaAt s) (crossAt s) p k j) t) [
                     | inl e ↦ inl (across ∙ eqb-true j k e)
-                    | inr u ↦ inr (ap (isAcross areaAt (crossing (wordIn s)) p k) across ∙ u)
+                    | inr u ↦ inr (ap (isAcross (areaAt s) (crossAt s) p k) across ∙ u)
                   ]) in
                   omega (arith, C .count, met-flag ∙ ap flag t)
               | inr e ↦
-                  let c = neither (eqb j k) (isAcross areaAt (crossing (wordIn s)) p k j) e in
-                  let m : N r ≡ N p + 1 = neighbours-new areaAt (crossing (wordIn s)) k p r l own gap-areas areasOf
+                  let c = neither (eqb j k) (isAcross (areaAt s) (crossAt s) p k j) e in
+                  let m : N r ≡ N p + 1 = neighbours-new (areaAt s) (crossAt s) k p r l own gap-areas (areasOf s)
                   (λ y. eqb-false j k (c .0) (sym across ∙ y))
-                  (ap (isAcross areaAt (crossing (wordIn s)) p k) across ∙ c .1)
+                  (ap (isAcross (areaAt s) (crossAt s) p k) across ∙ c .1)
                   (omega (arith, across, area-range q j Q hj)) (omega (arith, across, area-range q j Q hj)) in
                   omega (arith, C .count, met-flag ∙ ap flag e)
             ]
 
-        more-flags : (i : ℕ) → i ≤ areasOf → getD (set met j 1) i 0 ≡ flag (metBefore r i)
+        more-flags : (i : ℕ) → i ≤ areasOf s → getD (set met j 1) i 0 ≡ flag (metBefore r i)
         more-flags i h =
             elim (same-or-not i j) [
               | inl e ↦
                   ap (λ x. getD (set met j 1) x 0) e
                   ∙ getD-set-same met j 1 0 (omega (arith, area-index q j Q hj, C .long))
-                  ∙ sym (ap flag (either-right (eqb i k) (isAcross areaAt (crossing (wordIn s)) r k i)
-                  (ap (isAcross areaAt (crossing (wordIn s)) r k) (e ∙ sym across)
-                  ∙ across-there areaAt (crossing (wordIn s)) k p r l own gap-areas)))
+                  ∙ sym (ap flag (either-right (eqb i k) (isAcross (areaAt s) (crossAt s) r k i)
+                  (ap (isAcross (areaAt s) (crossAt s) r k) (e ∙ sym across)
+                  ∙ across-there (areaAt s) (crossAt s) k p r l own gap-areas)))
               | inr d ↦
                   getD-set-other met j i 1 0 d
                   ∙ C .flags i h
                   ∙ sym (ap (λ t. flag (eqb i k || t))
-                  (across-kept areaAt (crossing (wordIn s)) k p r l own gap-areas i (λ y. d (sym y ∙ across))))
+                  (across-kept (areaAt s) (crossAt s) k p r l own gap-areas i (λ y. d (sym y ∙ across))))
             ]
 
-      module _ (r : ℕ) (hr : r ≡ step brackets (bitsA (sizeIn s)) p) where
+      module _ (r : ℕ) (hr : r ≡ step (brackets s) (bitsA (sizeIn s)) p) where
         pub counting-on : Position s r → p < r → (left ≡ 0 → ⊥) → Counting r (others + (1 - getD met j 0)) (left - 1) (set met j 1)
         counting-on R l u =
             let bal = nested s square (Q .opens) in
-            let gap : (x : ℕ) → p < x → x < r → inner brackets x ≢ inner brackets p
-            = λ x i h. walk-rises brackets (bitsA (sizeIn s)) bal p (C .at .below) x (omega arith) i (omega arith) in
+            let gap : (x : ℕ) → p < x → x < r → inner (brackets s) x ≢ inner (brackets s) p
+            = λ x i h. walk-rises (brackets s) (bitsA (sizeIn s)) bal p (C .at .below) x (omega arith) i (omega arith) in
             record {
               at = R;
               from = C .from;
-              of = ap (inner brackets) hr ∙ inner-step brackets (bitsA (sizeIn s)) bal p (C .at .below) ∙ C .of;
+              of = ap (inner (brackets s)) hr ∙ inner-step (brackets s) (bitsA (sizeIn s)) bal p (C .at .below) ∙ C .of;
               long = length-set met j 1 ∙ C .long;
               flags = more-flags r l gap;
               count = more-count r l gap;
@@ -224,7 +222,7 @@ module _ (s : List ℕ) (k f most : ℕ) where
         all-counted h =
             let bal = nested s square (Q .opens) in
             more-count (bitsA (sizeIn s)) (C .at .below)
-            (walk-returns brackets (bitsA (sizeIn s)) bal p (C .at .below) (omega arith) .1)
+            (walk-returns (brackets s) (bitsA (sizeIn s)) bal p (C .at .below) (omega arith) .1)
 
         -- no more neighbours than sides, and no more sides than places
         few-neighbours : neighboursAt s k ≤ bitsA (sizeIn s)
@@ -232,8 +230,8 @@ module _ (s : List ℕ) (k f most : ℕ) where
         few-neighbours =
             omega (
               arith,
-              neighbours-most areaAt (crossing (wordIn s)) (bitsA (sizeIn s)) areasOf k,
-              count-le (λ x. eqb (areaAt x) k) (bitsA (sizeIn s)),
+              neighbours-most (areaAt s) (crossAt s) (bitsA (sizeIn s)) (areasOf s) k,
+              count-le (λ x. eqb (areaAt s x) k) (bitsA (sizeIn s)),
             )
 
         pub counting-end : r ≤ p → Answered (others + (1 - getD met j 0))
@@ -246,8 +244,8 @@ module _ (s : List ℕ) (a : Area) (n : ℕ) (hn : n ≡ bitsA (sizeIn s)) (N : 
   pub count-empty : n ≡ 0 → 0 ≡ neighboursAt s (a .0)
   unfolding neighboursIn wordIn
   count-empty z =
-      sym (ap (λ x. neighbours (areaAt s (a .0) 0 0) (crossing (wordIn s)) x (areasOf s (a .0) 0 0) (a .0)) (sym hn ∙ z)
-      ∙ neighbours-start (areaAt s (a .0) 0 0) (crossing (wordIn s)) (a .0) 0 (λ x l. absurd (omega arith)) (areasOf s (a .0) 0 0))
+      sym (ap (λ x. neighbours (areaAt s) (crossAt s) x (areasOf s) (a .0)) (sym hn ∙ z)
+      ∙ neighbours-start (areaAt s) (crossAt s) (a .0) 0 (λ x l. absurd (omega arith)) (areasOf s))
 
   pub count-start : (f : ℕ) → (n ≡ 0 → ⊥) → f ≡ first (seen square (wordIn s)) (bitsA (sizeIn s)) (a .0) → Position s f → Start s (a .0) f
   count-start f m e P =

@@ -26,14 +26,13 @@ use Rattle.count.proofs.Below.{count-zero, count-yes, count-no, count-le, count
 use Rattle.words.specs.Brackets.{number, first, size}
 use Rattle.words.specs.declared.family.Family.the-variants.{Square as square}
 use Rattle.words.specs.Word.{seen}
-use Rattle.words.proofs.Numbers.{number-positive, number-range, number-reached}
+use Rattle.words.proofs.Numbers.{number-positive, number-reached}
 use Rattle.drawing.specs.Drawing.{Kind}
 use Rattle.drawing.specs.Laid.{laid}
 use Rattle.format.specs.Bytes.{sizeIn, bitsA, wordIn}
 use Rattle.format.specs.Open.{openRefusal}
 use Rattle.format.specs.Calls.{cellsIn, firstIn, placesIn}
-use Rattle.format.proofs.Passes.{opens-passes}
-use Rattle.format.proofs.Openings.{cells-numbers}
+use Rattle.format.proofs.Openings.{cells-numbers, number-cells, areas-most}
 use Rattle.walking.specs.Positions.{Position}
 use Rattle.walking.proofs.Decoded.{nested, places-most}
 use Rattle.surveying.proofs.Laws.{laid-table}
@@ -95,9 +94,6 @@ onArea s i q = eqb (number (seen square (wordIn s)) q) (suc i)
 abbrev areasOf : List ℕ → ℕ
 areasOf s = cellsIn (sizeIn s) Kind.area
 
-areas-most : (s : List ℕ) → openRefusal s ≡ 0 → areasOf s ≤ 2049
-areas-most s o = omega (arith, opens-passes s o .m-most, opens-passes s o .n-least)
-
 pub record Tallying (s ss₀ fs₀ : List ℕ) (n p : ℕ) (ss fs : List ℕ) : Type 0 where
   pub opens : openRefusal s ≡ 0
   pub places : n ≡ bitsA (sizeIn s)
@@ -145,8 +141,8 @@ module _ (s ss₀ fs₀ : List ℕ) (n : ℕ) where
       module _ (hk : k ≡ a - 1) where
         index-below : k < areasOf s
         index-below =
-            let r = number-range (seen square (wordIn s)) (bitsA (sizeIn s)) p (omega (arith, T .places)) in
-            omega (arith, cells-numbers s Kind.area (T .opens), area-positive)
+            let r = number-cells s (T .opens) Kind.area p (omega (arith, T .places)) in
+            omega (arith, r .1, area-positive)
 
         pub sides-index : k < length ss
         sides-index = omega (arith, index-below, areas-most s (T .opens), T .sides-same, T .sides-room)

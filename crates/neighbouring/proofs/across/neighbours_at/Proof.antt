@@ -24,13 +24,13 @@ add-count-from : tie.Need-add-count-from
 add-count-from c = search needs
 
 count-from-requires : tie.Need-count-from-requires
-count-from-requires c κs = search (count-start, needs)
+count-from-requires c κs = (search count-start, search needs, search needs)
 
 returns-2 : tie.Need-returns-2
 returns-2 c = search early-is
 
 count-surveyed-requires : tie.Need-count-surveyed-requires
-count-surveyed-requires c κs = search (count-start, needs)
+count-surveyed-requires c κs = (search count-start, search needs)
 
 returns-3 : tie.Need-returns-3
 returns-3 c = search needs
