@@ -40,9 +40,9 @@ pub record NeighboursMutual : Type 0 where
   pub map : (s : List ℕ) (k j : ℕ) → MapAcross s k j ↔ MapAcross s j k
   pub book : (D : Drawing) (k j : ℕ) → BookAcross D k j ↔ BookAcross D j k
 
--- `counted`: 02, 3/14: "the number of other areas across at least one side", by whatever test tells them. `refused`: no number is
--- declined that has sides, and none answered that has not. `most`: the count is at most the sides. `none`: it is 0 exactly if all
--- borders of the area part nothing, having the area itself on both sides. `empty`: so it is on the empty map.
+-- `counted`: 02, 3/14: "the number of other areas across at least one side", by whatever test tells them. `refused`: it is refused
+-- where sides are, with the same number, and nowhere else. `most`: it is at most the sides. `none`: it is 0 exactly if all borders
+-- of the area part nothing, having the area itself on both sides. `empty`: so it is on the empty map.
 pub record NeighbourCounts (m v : ℕ) (across : ℕ → ℕ → Type 0) (neighbours sides : ℕ → Answer ℕ) : Type 0 where
   pub counted : (k c : ℕ) → neighbours k ≡ answer c → (t : ℕ → Bool) → ((j : ℕ) → Decides (t j) (across k j))
       → c ≡ count (λ i. not (eqb (suc i) k) && t (suc i)) v
