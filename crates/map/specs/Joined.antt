@@ -6,7 +6,7 @@
 -- Assumes nothing.
 use mathlib.Core.Path.{_≡_}
 use mathlib.Core.List.{List}
-use Prim.Native.Nat.{ℕ, _≤_}
+use Prim.Native.Nat.{ℕ}
 use Rattle.words.specs.Brackets.{inner, number, first, size}
 use Rattle.words.specs.declared.family.Family.the-variants.{Round as round}
 use Rattle.words.specs.Word.{seen}
