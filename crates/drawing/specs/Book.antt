@@ -12,6 +12,7 @@
 -- firstPosition D c k == the lowest position on the point (area) k
 -- endsOn D c k       == how many ends are on the point (area) k
 -- bookFirst, bookSize, bookNeighbours, bookJoining == the book on point and area numbers
+-- bookLandings D k   == the areas across the sides of area k, one for each side
 -- Assumes nothing.
 use mathlib.Core.Bool.{Bool, true, false, _&&_}
 use mathlib.Core.List.{List}
@@ -19,7 +20,7 @@ use Prim.Native.Nat.{ℕ, zero, suc, pred}
 use lib.Dec.{eqb, ltb, leb}
 use Rattle.count.specs.Below.{pick, find, count}
 use Rattle.drawing.specs.Drawing.{Drawing, Kind, borders, ends, other, turn, around, cellOf, cells, endAt, positionOf}
-use Rattle.drawing.specs.Neighbours.{neighbours}
+use Rattle.drawing.specs.Neighbours.{neighbours, landings}
 use Rattle.drawing.specs.Session.{Answer, answer, refused, Call, Outcome, session}
 
 -- 01: "its tour, which gives each end its place"
@@ -101,6 +102,12 @@ unfoldable pub bookNeighbours : Drawing → ℕ → Answer ℕ
 unfolding hasNumber neighbours numberAt other ends cells
 bookNeighbours D k =
     pick (hasNumber D Kind.area k) (answer (neighbours (numberAt D Kind.area) other (ends D) (cells D Kind.area) k)) (refused 15)
+
+-- 02, 4/14: "one for each side, in walk order from the area's first place"
+unfoldable pub bookLandings : Drawing → ℕ → List ℕ
+unfolding landings numberAt other around endsOn endAt firstPosition
+bookLandings D k =
+    landings (numberAt D Kind.area) other (around D Kind.area) (endsOn D Kind.area k) (endAt D (firstPosition D Kind.area k))
 
 -- the place of the first of k ends from h on, in turning order, whose other end is on point v; 0 where none is
 unfoldable pub joinFrom : Drawing → ℕ → ℕ → ℕ → ℕ

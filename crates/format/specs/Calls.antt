@@ -6,6 +6,7 @@
 -- mapSession s i cs   == a session on the map s
 -- firstOf, sizeOf     == first place, and degree or sides, of a point or an area of the map s: 8 to 12, 14 or 15
 -- neighboursIn, neighboursOf == the neighbour count of an area of a word, of the map s
+-- landingsIn w k      == the areas across the sides of area k of a word, one for each side
 -- joiningOf s u v     == the joining border of points u and v
 -- Assumes nothing.
 use mathlib.Core.Bool.{Bool, true, false, _&&_}
@@ -19,7 +20,7 @@ use Rattle.words.specs.declared.family.Family.the-variants.{Round as round, Squ
 use Rattle.words.specs.Word.{Word, seen, crossing}
 use Rattle.drawing.specs.Drawing.{Kind}
 use Rattle.drawing.specs.Session.{Answer, answer, refused, Call, Outcome, session}
-use Rattle.drawing.specs.Neighbours.{neighbours}
+use Rattle.drawing.specs.Neighbours.{neighbours, landings}
 use Rattle.drawing.specs.Book.{noSuch}
 use Rattle.format.specs.Bytes.{Size, sizeIn, wordIn}
 use Rattle.format.specs.Open.{opened}
@@ -116,6 +117,12 @@ unfolding opened sizeIn neighboursIn wordIn
 neighboursOf s k =
     opened s
     (pick (isNumber (sizeIn s) Kind.area k) (answer (neighboursIn (wordIn s) (cellsIn (sizeIn s) Kind.area) k)) (refused 15))
+
+-- 02, 4/14: "one for each side, in walk order from the area's first place"
+unfoldable pub landingsIn : Word → ℕ → List ℕ
+unfolding landings number seen crossing step placesIn first
+landingsIn w k =
+    landings (number (seen square w)) (crossing w) (step (seen square w) (w .size)) (placesIn w Kind.area k) (first (seen square w) (w .size) k)
 
 -- the first of k places from position p on, in turning order, whose crossing lands at point v; 0 where none does
 unfoldable pub joinIn : Word → ℕ → ℕ → ℕ → ℕ

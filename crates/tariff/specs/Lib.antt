@@ -1,0 +1,4 @@
+-- The tariff: definitions.
+pub mod Tariff
+pub mod Book
+pub mod Maps
