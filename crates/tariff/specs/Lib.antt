@@ -2,3 +2,4 @@
 pub mod Tariff
 pub mod Book
 pub mod Maps
+pub mod Statements

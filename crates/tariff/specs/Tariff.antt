@@ -9,20 +9,22 @@
 -- held x low high    == x, raised to the floor or lowered to the ceiling
 -- ofKind b x low high == what the kind byte b makes of three numbers
 -- factorAt kinds values k == the factor of area k
--- Allowed f, allowed f == the numbers that f uses are within the bounds, and no floor exceeds its ceiling
+-- allowed f          == the numbers that f uses are within the bounds, and no floor exceeds its ceiling
 -- TariffFits v kinds values, tariffFits == passes 18: the lists are those of v areas, and say of each what is allowed
 -- Running            == a sum, and how many factors are in it
 -- added r f          == r with one factor more, if it is known
 -- summed t js r      == r with those of the areas js, in order; t is the factor of an area
 -- mean r             == the sum divided by the count
--- priced f r         == what an area with the factor f is given, r being the sum across its sides; passes 19 if that is not empty
+-- sumAcross kinds values js == the sum of the known factors of the areas js
+-- hasFactor f r      == passes 19: the factor f is known, or the sum r across the sides has at least one in it
+-- worth f r          == the factor that an area is given: its own, held, or the mean
 -- rated v kinds values k js == 18, 19, or the factor of area k of v, with the areas js across its sides
 -- Assumes nothing.
 use mathlib.Core.Path.{_≡_}
 use mathlib.Core.Bool.{Bool, true, not, _&&_}
 use mathlib.Core.List.{List, [], _∷_}
 use Prim.Native.Nat.{ℕ, suc, pred, _+_, _*_, _≤_, _<_}
-use lib.Dec.{eqb, leb}
+use lib.Dec.{eqb, ltb, leb}
 use lib.IntN.{pos}
 use lib.Ieee.{Float, binary64, nan, ofBits, ofInt, add, div, lt, le}
 use lib.ListN.{length, getD}
@@ -104,16 +106,31 @@ unfoldable pub mean : Running → Float
 unfolding div ofInt
 mean r = div binary64 (r .sum) (ofInt binary64 (pos (r .count)))
 
+-- 19: "when the unknown factor wanted has no known one across any side"
+unfoldable pub hasFactor : Factor → Running → Bool
+hasFactor (Factor.Own x) r = true
+hasFactor (Factor.Held x low high) r = true
+hasFactor Factor.Unknown r = ltb 0 (r .count)
+
 -- 02: "An area's factor is its own, or held between a floor and a ceiling, or not known. One not known is the mean across its
--- sides"; 19: "when the unknown factor wanted has no known one across any side"
-unfoldable pub priced : Factor → Running → Answer Float
+-- sides"
+unfoldable pub worth : Factor → Running → Float
 unfolding held mean
-priced (Factor.Own x) r = answer x
-priced (Factor.Held x low high) r = answer (held x low high)
-priced Factor.Unknown r = pick (eqb (r .count) 0) (refused 19) (answer (mean r))
+worth (Factor.Own x) r = x
+worth (Factor.Held x low high) r = held x low high
+worth Factor.Unknown r = mean r
+
+-- 02: "begin at 0.0"
+unfoldable pub sumAcross : List ℕ → List Float → List ℕ → Running
+unfolding summed factorAt
+sumAcross kinds values js = summed (factorAt kinds values) js begun
 
 -- 02: "18 first"
 unfoldable pub rated : ℕ → List ℕ → List Float → ℕ → List ℕ → Answer Float
-unfolding tariffFits priced factorAt summed
+unfolding tariffFits hasFactor worth factorAt sumAcross
 rated v kinds values k js =
-    pick (tariffFits v kinds values) (priced (factorAt kinds values k) (summed (factorAt kinds values) js begun)) (refused 18)
+    pick (tariffFits v kinds values)
+    (pick (hasFactor (factorAt kinds values k) (sumAcross kinds values js))
+    (answer (worth (factorAt kinds values k) (sumAcross kinds values js)))
+    (refused 19))
+    (refused 18)

@@ -1,0 +1,69 @@
+-- What document 02, 4/14, says of the factor of an area: one record, for every byte string, number and pair of lists.
+--
+-- Known f            == the factor f is known
+-- Priced t k js      == area k is known, or one of the areas js across its sides is; t is the factor of an area
+-- FactorCheck s k kinds values j == the call passes check j; nothing is asked of a number that is none of its checks
+-- factorIn s k kinds values == the factor of area k by the lists, whatever the checks say
+-- uses b f           == whether a kind byte b uses its number f: 0 the factor, 1 the floor, 2 the ceiling
+-- SameUsed kinds values others == the two lists of numbers agree in all that is used
+-- Factored s k kinds values == the whole
+-- Assumes nothing.
+use mathlib.Core.Path.{_≡_}
+use mathlib.Core.Logic.{_≢_, _⊎_}
+use mathlib.Core.Bool.{Bool, true}
+use mathlib.Core.List.{List}
+use Prim.Native.Nat.{ℕ, _+_, _*_, _<_}
+use lib.Dec.{eqb}
+use lib.Ieee.{Float, binary64, nan, ofBits, le}
+use lib.ListN.{length, getD}
+use Rattle.count.specs.Below.{pick}
+use Rattle.drawing.specs.Drawing.{Kind}
+use Rattle.drawing.specs.Session.{answer}
+use Rattle.format.specs.Bytes.{sizeIn, wordIn}
+use Rattle.format.specs.Open.{OpenCheck}
+use Rattle.format.specs.Refusals.{InOrder, bare}
+use Rattle.format.specs.Calls.{cellsIn, isNumber, landingsIn}
+use Rattle.tariff.specs.declared.factor.Factor.{Factor}
+use Rattle.tariff.specs.Tariff.{factorAt, TariffFits, mean, sumAcross, worth}
+use Rattle.tariff.specs.Maps.{factorOf}
+
+abbrev pub Known : Factor → Type 0
+Known f = f ≢ Factor.Unknown
+
+-- 19: "when the unknown factor wanted has no known one across any side"
+abbrev pub Priced : (ℕ → Factor) → ℕ → List ℕ → Type 0
+Priced t k js = Known (t k) ⊎ ((i : ℕ) × (i < length js) × Known (t (getD js i 0)))
+
+-- 02: "both come after opening and 15, 18 first"
+abbrev pub FactorCheck : List ℕ → ℕ → List ℕ → List Float → ℕ → Type 0
+FactorCheck s k kinds values j =
+    pick (eqb j 15) (isNumber (sizeIn s) Kind.area k ≡ true)
+    (pick (eqb j 18) (TariffFits (cellsIn (sizeIn s) Kind.area) kinds values)
+    (pick (eqb j 19) (Priced (factorAt kinds values) k (landingsIn (wordIn s) k)) (OpenCheck s j)))
+
+unfoldable pub factorIn : List ℕ → ℕ → List ℕ → List Float → Float
+unfolding worth factorAt sumAcross landingsIn wordIn
+factorIn s k kinds values = worth (factorAt kinds values k) (sumAcross kinds values (landingsIn (wordIn s) k))
+
+abbrev pub uses : ℕ → ℕ → Bool
+uses b f = pick (eqb b 0) (eqb f 0) (eqb b 1)
+
+pub record SameUsed (kinds : List ℕ) (values others : List Float) : Type 0 where
+  pub long : length others ≡ length values
+  pub used : (i f : ℕ) → i < length kinds → f < 3 → uses (getD kinds i 0) f ≡ true → getD others (3 * i + f) nan ≡ getD values (3 * i + f) nan
+
+-- Refusals come in order, and each exactly where it applies (`order`). An own factor is answered as it is, a held one lies between
+-- its floor and its ceiling and is itself where it lies there already, one not known is the mean. Every answer is a number between
+-- 1/128 and 128, so its bits are fixed (`bounded`): of a mean, rounding leaves no narrower claim that is as simple. What a kind
+-- doesn't use changes nothing (`unread`).
+pub record Factored (s : List ℕ) (k : ℕ) (kinds : List ℕ) (values : List Float) : Type 0 where
+  pub order : InOrder bare (FactorCheck s k kinds values) 8 19 (factorIn s k kinds values) (factorOf s k kinds values)
+  pub own : (x : Float) → factorAt kinds values k ≡ Factor.Own x → factorIn s k kinds values ≡ x
+  pub between : (x low high y : Float) → factorAt kinds values k ≡ Factor.Held x low high → factorOf s k kinds values ≡ answer y
+      → (le low y ≡ true) × (le y high ≡ true)
+  pub inside : (x low high : Float) → factorAt kinds values k ≡ Factor.Held x low high → le low x ≡ true → le x high ≡ true
+      → factorIn s k kinds values ≡ x
+  pub unknown : factorAt kinds values k ≡ Factor.Unknown → factorIn s k kinds values ≡ mean (sumAcross kinds values (landingsIn (wordIn s) k))
+  pub bounded : (y : Float) → factorOf s k kinds values ≡ answer y
+      → (le (ofBits binary64 0x3f80_0000_0000_0000) y ≡ true) × (le y (ofBits binary64 0x4060_0000_0000_0000) ≡ true)
+  pub unread : (others : List Float) → SameUsed kinds values others → factorOf s k kinds others ≡ factorOf s k kinds values
