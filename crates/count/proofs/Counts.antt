@@ -3,6 +3,7 @@
 -- count-zero, count-yes, count-no == none below 0; at n + 1 one more where n has the test, else as many
 -- count-le, count-mono  == at most the bound; no fewer below a larger bound
 -- count-before          == fewer before a number that has the test
+-- count-stays, count-next == as many where none is between, and one more at the next that has the test
 -- count-same, count-implies == equal tests count alike; a test that implies another counts no more
 -- count-split, count-not == a test counts as it does with and without a second one; with its negation it counts all
 -- count-none, count-all == none has the test, all have it
@@ -54,6 +55,19 @@ count-mono P i (suc n) h =
 
 pub count-before : (P : ℕ → Bool) (x n : ℕ) → x < n → P x ≡ true → count P x < count P n
 count-before P x n l h = omega (arith, count-yes P x h, count-mono P (x + 1) n (omega arith))
+
+pub count-stays : (P : ℕ → Bool) (p n : ℕ) → p ≤ n → ((x : ℕ) → p ≤ x → x < n → P x ≡ false) → count P n ≡ count P p
+unfolding count
+count-stays P p zero h none = let e : p ≡ 0 = omega arith in rw e
+count-stays P p (suc n) h none =
+    elim (same-or-not p (suc n)) [
+      | inl e ↦ rw e
+      | inr d ↦ rw (none n (omega arith) (omega arith)) (count-stays P p n (omega arith) (λ x i j. none x i (omega arith)))
+    ]
+
+pub count-next : (P : ℕ → Bool) (p n : ℕ) → p < n → P p ≡ true → ((x : ℕ) → p < x → x < n → P x ≡ false) → count P n ≡ count P p + 1
+count-next P p n h t none =
+    count-stays P (p + 1) n (omega arith) (λ x i j. none x (omega arith) j) ∙ count-yes P p t
 
 pub count-same : (P Q : ℕ → Bool) (n : ℕ) → ((x : ℕ) → x < n → P x ≡ Q x) → count P n ≡ count Q n
 unfolding count

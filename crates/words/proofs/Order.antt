@@ -4,18 +4,29 @@
 -- inside       == between an opening and its partner the innermost open bracket is another
 -- walk-rises   == a step to a higher position passes over none of the same point (area)
 -- walk-returns == any other step leads to the first position, and from the last
+-- walk-more, walk-last == the same by how many positions of the point (area) come before: one more, or all but this one
+-- walk-order   == from the first position of a point (area) the i-th step leads to its i-th position, and after all of them back
 -- Assumes nothing.
 use mathlib.Core.Path.{_≡_, refl, sym, ap, _∙_}
 use mathlib.Core.Logic.{_≢_, inl, inr}
-use Prim.Native.Nat.{ℕ, _+_, _<_, _≤_}
+use mathlib.Core.Bool.{Bool, true, false}
+use Prim.Native.Nat.{ℕ, zero, suc, _+_, _-_, _<_, _≤_}
+use native.Mathlib.Numerals.{add-one}
 use native.Mathlib.Omega.{arith}
-use Rattle.count.proofs.Logic.{same-or-not}
-use Rattle.words.specs.Brackets.{Bracket, opens, closes, inner, Balanced, mate, next, step}
+use lib.Dec.{eqb}
+use borrow.Author.Tests.{eq-eqb, ne-eqb}
+use Rattle.count.specs.Below.{count, nth}
+use Rattle.count.proofs.Logic.{same-or-not, lt-or-ge}
+use Rattle.count.proofs.Below.{count-none, count-next, count-before, nth-of-count}
+use Rattle.orbits.specs.Cycles.{iter}
+use Rattle.orbits.proofs.Iter.{iter-next}
+use Rattle.words.specs.Brackets.{Bracket, opens, closes, inner, Balanced, mate, next, step, number, size}
 use Rattle.words.proofs.Letters.{by-bracket}
 use Rattle.words.proofs.Stack.{inner-zero, inner-le}
 use Rattle.words.proofs.Held.{Held, at-top, under, held-below}
 use Rattle.words.proofs.Mate.{mate-neither, mate-opens, mate-closes, mate-involutive, inner-closing, held-mate, held-to-mate}
-use Rattle.words.proofs.Step.{next-plain, next-last, inner-step}
+use Rattle.words.proofs.Step.{next-plain, next-last, step-below, inner-step}
+use Rattle.words.proofs.Numbers.{inner-number, number-inner}
 
 module _ (b : ℕ → Bracket) where
   held-inner : (q p : ℕ) → Held b q p → q < inner b p
@@ -77,3 +88,76 @@ module _ (b : ℕ → Bracket) where
           | inl z ↦ (to-zero (m ∙ next-last n p z), λ q i j. absurd (omega arith))
           | inr z ↦ absurd (omega (arith, next-plain n p z))
         ])
+
+  -- ---- by how many positions of the same point (area) come before
+  abbrev on : ℕ → ℕ → Bool
+  on k q = eqb (number b q) k
+
+  module _ (n : ℕ) (bal : Balanced b n) (k : ℕ) where
+    module _ (p : ℕ) (l : p < n) (e : number b p ≡ k) where
+      other : (q : ℕ) → inner b q ≢ inner b p → on k q ≡ false
+      other q d = ne-eqb (number b q) k (λ f. d (number-inner b q p (f ∙ sym e)))
+
+      pub walk-more : p < step b n p → count (on k) (step b n p) ≡ count (on k) p + 1
+      walk-more h =
+          count-next (on k) p (step b n p) h (eq-eqb (number b p) k e) (λ q i j. other q (walk-rises n bal p l q h i j))
+
+      pub walk-last : step b n p ≤ p → size b n k ≡ count (on k) p + 1
+      unfolding size
+      walk-last h =
+          count-next (on k) p n l (eq-eqb (number b p) k e) (λ q i j. other q (walk-returns n bal p l h .1 q i j))
+
+    module _ (f : ℕ) (l : f < n) (first : inner b f ≡ f) (e : number b f ≡ k) where
+      none-before : count (on k) f ≡ 0
+      none-before =
+          count-none (on k) f
+          (λ q i. ne-eqb (number b q) k (λ g. omega (arith, number-inner b q f (g ∙ sym e), inner-le b q)))
+
+      -- the i-th step: a position of the same point (area), with i of them before it
+      record Reached (i p : ℕ) : Type 0 where
+        pub below : p < n
+        pub same : number b p ≡ k
+        pub before : count (on k) p ≡ i
+
+      reached : (i : ℕ) → i < size b n k → Reached i (iter (step b n) i f)
+      unfolding iter
+      reached zero h = record { below = l; same = e; before = none-before }
+      reached (suc i) h =
+          let p : ℕ = iter (step b n) i f in
+          let R : Reached i p = reached i (omega arith) in
+          elim (lt-or-ge p (step b n p)) [
+            | inl r ↦ record {
+              below = step-below b n bal p (R .below);
+              same = inner-number b (step b n p) p (inner-step b n bal p (R .below)) ∙ R .same;
+              before = walk-more p (R .below) (R .same) r ∙ ap (λ x. x + 1) (R .before) ∙ add-one i;
+            }
+            | inr r ↦ absurd (omega (arith, walk-last p (R .below) (R .same) r, R .before))
+          ]
+
+      before-end : (q : ℕ) → q < n → number b q ≡ k → count (on k) q < size b n k
+      unfolding size
+      before-end q i g = count-before (on k) q n i (eq-eqb (number b q) k g)
+
+      comes-back : (i : ℕ) → size b n k ≡ i + 1 → iter (step b n) (i + 1) f ≡ f
+      comes-back i h =
+          let p : ℕ = iter (step b n) i f in
+          let R : Reached i p = reached i (omega arith) in
+          elim (lt-or-ge p (step b n p)) [
+            | inl r ↦
+                let c : count (on k) (step b n p) < size b n k = before-end (step b n p) (step-below b n bal p (R .below))
+                (inner-number b (step b n p) p (inner-step b n bal p (R .below)) ∙ R .same) in
+                absurd (omega (arith, walk-more p (R .below) (R .same) r, R .before))
+            | inr r ↦
+                iter-next (step b n) i f ∙ walk-returns n bal p (R .below) r .0
+                ∙ number-inner b p f (R .same ∙ sym e) ∙ first
+          ]
+      pub walk-order : ((i : ℕ) → i < size b n k → iter (step b n) i f ≡ nth (on k) i n) × (iter (step b n) (size b n k) f ≡ f)
+      walk-order =
+          (
+            λ i h.
+                let R : Reached i (iter (step b n) i f) = reached i h in
+                sym (nth-of-count (on k) (iter (step b n) i f) n (R .below) (eq-eqb (number b (iter (step b n) i f)) k (R .same)))
+                ∙ ap (λ x. nth (on k) x n) (R .before),
+            let one : size b n k ≡ (size b n k - 1) + 1 = omega (arith, before-end f l e) in
+            ap (λ d. iter (step b n) d f) one ∙ comes-back (size b n k - 1) one,
+          )
