@@ -1,0 +1,155 @@
+-- What the functions answer, by the tests that they have made.
+--
+-- held-raised, held-lowered, held-kept == a factor below its floor, above its ceiling, between them
+-- added-own, added-held, added-unknown == one factor more, by its case
+-- plus-is, mean-is           == a sum and a count make a running sum, and a quotient its mean
+-- within-low, within-high    == the two bounds
+-- allowed-*                  == what is allowed, by the case of the factor
+-- at-own, at-held, at-unknown == what the lists say of an area, by its kind byte
+-- entry-above, entry-allowed == an entry, by its kind byte
+-- Fitting                    == what the loop over the areas keeps: what the lists say of those before area i + 1 is allowed
+-- fitting-*                  == at the first area, from one to the next, and after the last
+-- lists-bytes, lists-numbers == lists of another length
+-- Assumes nothing.
+use mathlib.Core.Path.{_≡_, refl, sym, ap, _∙_}
+use mathlib.Core.Bool.{Bool, true, false, not, _&&_}
+use mathlib.Core.List.{List}
+use Prim.Native.Nat.{ℕ, suc, pred, _+_, _-_, _*_, _≤_, _<_}
+use native.Mathlib.Numerals.{add-one}
+use native.Mathlib.Omega.{arith}
+use lib.Dec.{eqb, leb}
+use lib.Ieee.{Float, binary64, nan, ofInt, add, div, lt, le}
+use lib.IntN.{pos}
+use lib.ListN.{length, getD}
+use borrow.Author.Tests.{eq-eqb, ne-eqb, le-leb, lt-leb}
+use Rattle.count.specs.Below.{pick, all}
+use Rattle.count.proofs.Below.{all-from, all-fails}
+use Rattle.tariff.specs.declared.factor.Factor.{Factor}
+use Rattle.tariff.specs.declared.factor.Running.{Running}
+use Rattle.tariff.specs.Tariff.{least, most, within, held, ofKind, factorAt, allowed, tariffFits, plus, added, mean}
+use Rattle.pricing.specs.Lists.{InLists, entryFits}
+
+module _ (x low high : Float) where
+  pub held-raised : lt x low ≡ true → low ≡ held x low high
+  unfolding held
+  held-raised e = rw e
+
+  pub held-lowered : lt x low ≡ false → lt high x ≡ true → high ≡ held x low high
+  unfolding held
+  held-lowered e f = rw (e, f)
+
+  pub held-kept : lt x low ≡ false → lt high x ≡ false → x ≡ held x low high
+  unfolding held
+  held-kept e f = rw (e, f)
+
+module _ (r q : Running) (f : Factor) where
+  pub added-own : (x : Float) → f ≡ Factor.Own x → q ≡ plus r x → q ≡ added r f
+  unfolding added
+  added-own x e h = h ∙ ap (added r) (sym e)
+
+  pub added-held : (x low high y : Float) → f ≡ Factor.Held x low high → y ≡ held x low high → q ≡ plus r y → q ≡ added r f
+  unfolding added
+  added-held x low high y e g h = h ∙ ap (plus r) g ∙ ap (added r) (sym e)
+
+  pub added-unknown : f ≡ Factor.Unknown → q ≡ r → q ≡ added r f
+  unfolding added
+  added-unknown e h = h ∙ ap (added r) (sym e)
+
+pub mean-is : (r : Running) (y : Float) → y ≡ ofInt binary64 (pos (r .count)) → div binary64 (r .sum) y ≡ mean r
+unfolding mean
+mean-is r y e = ap (div binary64 (r .sum)) e
+
+pub plus-is : (r : Running) (x : Float) → record { sum = add binary64 (r .sum) x; count = r .count + 1 } ≡ plus r x
+unfolding plus
+plus-is r x = refl
+
+module _ (x : Float) where
+  pub within-not : le least x ≡ false → le least x ≡ within x
+  unfolding within
+  within-not e = rw e
+
+  pub within-both : le least x ≡ true → le x most ≡ within x
+  unfolding within
+  within-both e = rw e
+
+-- ---- what is allowed
+module _ (f : Factor) (r : Bool) where
+  pub allowed-own : (x : Float) → f ≡ Factor.Own x → r ≡ within x → r ≡ allowed f
+  unfolding allowed
+  allowed-own x e h = h ∙ ap allowed (sym e)
+
+  pub allowed-held : (x low high : Float) → f ≡ Factor.Held x low high → r ≡ allowed (Factor.Held x low high) → r ≡ allowed f
+  allowed-held x low high e h = h ∙ ap allowed (sym e)
+
+  pub allowed-unknown : f ≡ Factor.Unknown → r ≡ true → r ≡ allowed f
+  unfolding allowed
+  allowed-unknown e h = h ∙ ap allowed (sym e)
+
+last-fails : (a b c : Bool) → a && b && c && false ≡ false
+last-fails false b c = refl
+last-fails true false c = refl
+last-fails true true false = refl
+last-fails true true true = refl
+
+last-holds : (a : Bool) → a && true ≡ a
+last-holds false = refl
+last-holds true = refl
+
+not-is : (a b : Bool) → not a ≡ b → a ≡ not b
+not-is true b e = let z : false ≡ b = e in ap not z
+not-is false b e = let z : true ≡ b = e in ap not z
+
+module _ (x low high : Float) where
+  pub hold-exceeds : lt high low ≡ true → false ≡ allowed (Factor.Held x low high)
+  unfolding allowed
+  hold-exceeds e = sym (rw e (last-fails (within x) (within low) (within high)))
+
+  module _ (e : lt high low ≡ false) (a : Bool) (ha : a ≡ within x) where
+    pub hold-outside : not a ≡ true → false ≡ allowed (Factor.Held x low high)
+    unfolding allowed
+    hold-outside n = sym (ap (λ t. t && within low && within high && not (lt high low)) (sym ha ∙ not-is a true n))
+
+    module _ (na : not a ≡ false) (b : Bool) (hb : b ≡ within low) where
+      first-holds : allowed (Factor.Held x low high) ≡ (b && within high && not (lt high low))
+      unfolding allowed
+      first-holds = rw (sym ha ∙ not-is a false na, sym hb)
+
+      pub hold-floor : not b ≡ true → false ≡ allowed (Factor.Held x low high)
+      hold-floor n = sym (first-holds ∙ ap (λ t. t && within high && not (lt high low)) (not-is b true n))
+
+      pub hold-ceiling : not b ≡ false → (c : Bool) → c ≡ within high → c ≡ allowed (Factor.Held x low high)
+      hold-ceiling n c hc =
+          hc ∙ sym (last-holds (within high))
+          ∙ sym (first-holds ∙ ap (λ t. t && within high && not (lt high low)) (not-is b false n) ∙ ap (λ t. within high && not t) e)
+
+-- ---- what the lists say of an area
+module _ (kinds : List ℕ) (values : List Float) (k i at b : ℕ) (hi : i ≡ k - 1) (ha : at ≡ 3 * i) (hb : b ≡ getD kinds i 0) where
+  index-is : (i ≡ pred k) × (at ≡ 3 * pred k)
+  index-is = (omega arith, omega arith)
+
+  made : factorAt kinds values k ≡ ofKind b (getD values at nan) (getD values (at + 1) nan) (getD values (at + 2) nan)
+  unfolding factorAt
+  made = rw (sym (index-is .1), sym (index-is .0), sym hb)
+
+  pub at-own : b ≡ 0 → Factor.Own (getD values at nan) ≡ factorAt kinds values k
+  unfolding ofKind
+  at-own e = sym (made ∙ rw (eq-eqb b 0 e))
+
+  pub at-held : (b ≡ 0 → ⊥) → b ≡ 1 → Factor.Held (getD values at nan) (getD values (at + 1) nan) (getD values (at + 2) nan) ≡ factorAt kinds values k
+  unfolding ofKind
+  at-held d e = sym (made ∙ rw (ne-eqb b 0 d, eq-eqb b 1 e))
+
+  pub at-unknown : (b ≡ 0 → ⊥) → (b ≡ 1 → ⊥) → Factor.Unknown ≡ factorAt kinds values k
+  unfolding ofKind
+  at-unknown d e = sym (made ∙ rw (ne-eqb b 0 d, ne-eqb b 1 e))
+
+-- ---- an entry
+module _ (kinds : List ℕ) (values : List Float) (i : ℕ) where
+  pub entry-above : (b : ℕ) → b ≡ getD kinds i 0 → 2 < b → false ≡ entryFits kinds values i
+  unfolding entryFits
+  entry-above b h l = sym (rw (sym h, lt-leb b 2 l))
+
+  pub entry-allowed : (b : ℕ) (f : Factor) (r : Bool) → b ≡ getD kinds i 0 → b ≤ 2 → f ≡ factorAt kinds values (i + 1) → r ≡ allowed f
+      → r ≡ entryFits kinds values i
+  unfolding entryFits
+  entry-allowed b f r h l e g = g ∙ ap allowed e ∙ sym (rw (sym h, le-leb b 2 l) (ap (λ n. allowed (factorAt kinds values n)) (sym (add-one i))))

@@ -1,0 +1,2 @@
+-- A tariff in the code's hands: laws.
+pub mod Laws

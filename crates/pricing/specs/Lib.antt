@@ -1,0 +1,2 @@
+-- A tariff in the code's hands: definitions.
+pub mod Lists

@@ -1,0 +1,1 @@
+-- The factor of an area of a map: laws.

@@ -1,0 +1,6 @@
+// What the call answers.
+
+pub enum FactorAnswer {
+    Is(f64),
+    Declined(u8),
+}
