@@ -1,1 +1,2 @@
 -- The tariff: laws.
+pub mod Lists
