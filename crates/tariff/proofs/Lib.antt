@@ -1,2 +1,3 @@
 -- The tariff: laws.
 pub mod Lists
+pub mod Order

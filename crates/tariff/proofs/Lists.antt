@@ -1,5 +1,6 @@
 -- The two lists: their test decides what it says, and when a sum has a factor in it.
 --
+-- decides-true     == a test decides that it holds
 -- tariff-decides   == the test of check 18 decides its proposition
 -- knows f          == how many factors f adds: 1, or 0 where it is not known
 -- added-count      == a sum with one area more has as many more in it
@@ -24,7 +25,7 @@ use Rattle.tariff.specs.declared.factor.Running.{Running}
 use Rattle.tariff.specs.Tariff.{factorAt, allowed, TariffFits, tariffFits, begun, added, summed, hasFactor}
 use Rattle.tariff.specs.Statements.{Known, Priced}
 
-decides-true : (t : Bool) → Decides t (t ≡ true)
+pub decides-true : (t : Bool) → Decides t (t ≡ true)
 decides-true t = record { sound = λ e. e; complete = λ e. e }
 
 pub tariff-decides : (v : ℕ) (kinds : List ℕ) (values : List Float) → Decides (tariffFits v kinds values) (TariffFits v kinds values)
