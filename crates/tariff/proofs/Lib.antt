@@ -1,3 +1,4 @@
 -- The tariff: laws.
 pub mod Lists
 pub mod Order
+pub mod Held
