@@ -83,11 +83,11 @@ le-same : (x : Float) → T (positive x) → le x x ≡ true
 le-same x p = is-true (cross→le x x p p (omega arith))
 
 -- ---- within the bounds
-least-positive : T (positive least)
+pub least-positive : T (positive least)
 unfolding ofBits
 least-positive = tt
 
-most-positive : T (positive most)
+pub most-positive : T (positive most)
 unfolding ofBits
 most-positive = tt
 

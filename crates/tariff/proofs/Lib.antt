@@ -2,3 +2,4 @@
 pub mod Lists
 pub mod Order
 pub mod Held
+pub mod Means

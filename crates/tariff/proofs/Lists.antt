@@ -4,7 +4,7 @@
 -- tariff-decides   == the test of check 18 decides its proposition
 -- knows f          == how many factors f adds: 1, or 0 where it is not known
 -- added-count      == a sum with one area more has as many more in it
--- summed-least     == no factor is taken out of a sum
+-- summed-least, summed-most == no factor is taken out of a sum, and no area adds two
 -- count-known      == a sum across areas has more in it exactly if some area is known
 -- factor-decides   == the test of check 19 decides its proposition
 -- Assumes nothing.
@@ -68,11 +68,19 @@ added-count r Factor.Unknown = omega arith
 abbrev SomeKnown : (ℕ → Factor) → List ℕ → Type 0
 SomeKnown t js = (i : ℕ) × (i < length js) × Known (t (getD js i 0))
 
+pub added-most : (r : Running) (f : Factor) → added r f .count ≤ r .count + 1
+added-most r f = omega (arith, added-count r f, knows-most f)
+
 module _ (t : ℕ → Factor) where
   pub summed-least : (js : List ℕ) (r : Running) → r .count ≤ summed t js r .count
   unfolding summed
   summed-least [] r = omega arith
   summed-least (j ∷ js) r = omega (arith, added-count r (t j), summed-least js (added r (t j)))
+
+  pub summed-most : (js : List ℕ) (r : Running) → summed t js r .count ≤ r .count + length js
+  unfolding summed
+  summed-most [] r = omega arith
+  summed-most (j ∷ js) r = omega (arith, added-most r (t j), summed-most js (added r (t j)))
 
   summed-known : (js : List ℕ) (r : Running) (i : ℕ) → i < length js → Known (t (getD js i 0)) → r .count < summed t js r .count
   unfolding summed
