@@ -3,3 +3,4 @@ pub mod Lists
 pub mod Order
 pub mod Held
 pub mod Means
+pub mod Landings
