@@ -4,3 +4,4 @@ pub mod Order
 pub mod Held
 pub mod Means
 pub mod Landings
+pub mod Unread
