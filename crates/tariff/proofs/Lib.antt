@@ -5,3 +5,4 @@ pub mod Held
 pub mod Means
 pub mod Landings
 pub mod Unread
+pub mod Factors
