@@ -6,24 +6,24 @@
 -- factored         == document 02, 4/14, of the factor of an area
 -- Assumes nothing.
 use mathlib.Core.Path.{_≡_, refl, sym, ap, _∙_, subst}
-use mathlib.Core.Bool.{Bool, true, false, _&&_}
+use mathlib.Core.Bool.{Bool, true, false}
 use mathlib.Core.List.{List}
-use Prim.Native.Nat.{ℕ, zero, suc, pred, _≤_, _<_}
+use Prim.Native.Nat.{ℕ, zero, suc, _≤_, _<_}
 use native.Mathlib.Omega.{arith}
 use lib.Dec.{ltb, leb}
 use borrow.Author.Tests.{ltb-true, leb-true}
 use lib.Ieee.{Float, le}
-use lib.ListN.{length, getD}
+use lib.ListN.{getD}
 use Rattle.count.specs.Below.{pick}
 use Rattle.count.proofs.Logic.{both-left, both-right}
 use Rattle.drawing.specs.Drawing.{Kind}
-use Rattle.drawing.specs.Session.{Answer, answer, refused}
+use Rattle.drawing.specs.Session.{answer, refused}
 use Rattle.format.specs.Bytes.{sizeIn, wordIn}
 use Rattle.format.specs.Open.{openRefusal, afterRefusal, opened}
 use Rattle.format.specs.Calls.{cellsIn, isNumber, landingsIn}
 use Rattle.tariff.specs.declared.factor.Factor.{Factor}
 use Rattle.tariff.specs.declared.factor.Running.{Running}
-use Rattle.tariff.specs.Tariff.{factorAt, held, allowed, TariffFits, tariffFits, begun, summed, sumAcross, hasFactor, mean, worth, rated}
+use Rattle.tariff.specs.Tariff.{factorAt, held, allowed, TariffFits, tariffFits, sumAcross, hasFactor, mean, worth, rated}
 use Rattle.tariff.specs.Maps.{factorOf}
 use Rattle.tariff.specs.Statements.{factorIn, Factored}
 use Rattle.tariff.proofs.Lists.{tariff-decides}
@@ -62,7 +62,8 @@ worth-unknown : (r : Running) → worth Factor.Unknown r ≡ mean r
 unfolding worth
 worth-unknown r = refl
 
-worth-near : (f : Factor) (r : Running) → allowed f ≡ true → (0 < r .count → Near 1 (mean r)) → hasFactor f r ≡ true → Near 1 (worth f r)
+worth-near : (f : Factor) (r : Running) → allowed f ≡ true → (0 < r .count → Near 1 (mean r)) → hasFactor f r ≡ true
+    → Near 1 (worth f r)
 unfolding worth allowed hasFactor
 worth-near (Factor.Own x) r a m h = near-within x a
 worth-near (Factor.Held x low high) r a m h = near-within (held x low high) (held-within x low high a)

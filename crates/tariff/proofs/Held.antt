@@ -9,17 +9,17 @@
 -- held-between       == a held number lies between them
 -- held-within        == and within the bounds
 -- Assumes nothing.
-use mathlib.Core.Path.{_≡_, refl, sym, ap, _∙_, subst}
+use mathlib.Core.Path.{_≡_, refl, sym, _∙_, subst}
 use mathlib.Core.Logic.{inl, inr}
-use mathlib.Core.Bool.{Bool, true, false, not, _&&_, _||_, Bool·beq, true≢false}
+use mathlib.Core.Bool.{Bool, true, false, not, _&&_, _||_, true≢false}
 use Prim.Native.Nat.{ℕ, _+_, _*_, _≤_}
 use native.Mathlib.Omega.{arith}
 use lib.Dec.{T, eqb, ltb}
 use borrow.Author.Tests.{ltb-true, ltb-false, eqb-true, le-ltb, not-true}
-use lib.Ieee.{Float, nan, inf, fin, up, down, below, level, binary64, ofBits, lt, le}
+use lib.Ieee.{Float, nan, inf, fin, up, down, below, level, ofBits, lt, le}
 use lib.Ieee.Positive.{positive, num, den, cross→le, between}
 use Rattle.count.specs.Below.{pick}
-use Rattle.count.proofs.Logic.{true-or-false, both, both-left, both-right, one-of, pick-yes, pick-no}
+use Rattle.count.proofs.Logic.{true-or-false, both-left, both-right, one-of, pick-yes, pick-no}
 use Rattle.tariff.specs.declared.factor.Factor.{Factor}
 use Rattle.tariff.specs.Tariff.{least, most, within, held, allowed}
 
@@ -94,7 +94,9 @@ most-positive = tt
 pub within-positive : (x : Float) → within x ≡ true → T (positive x)
 unfolding within
 within-positive x e =
-    between least x most least-positive most-positive (holds (both-left (le least x) (le x most) e)) (holds (both-right (le least x) (le x most) e))
+    let l = both-left (le least x) (le x most) e in
+    let h = both-right (le least x) (le x most) e in
+    between least x most least-positive most-positive (holds l) (holds h)
 
 -- ---- held
 pub held-inside : (x low high : Float) → le low x ≡ true → le x high ≡ true → held x low high ≡ x
@@ -123,7 +125,8 @@ held-fits x low high e =
     }
 
 -- it is the floor, the ceiling or the number itself
-held-cases : (P : Float → Type 0) (x low high : Float) → P low → P high → (lt x low ≡ false → lt high x ≡ false → P x) → P (held x low high)
+held-cases : (P : Float → Type 0) (x low high : Float) → P low → P high → (lt x low ≡ false → lt high x ≡ false → P x)
+    → P (held x low high)
 unfolding held
 held-cases P x low high l h i =
     elim (true-or-false (lt x low)) [

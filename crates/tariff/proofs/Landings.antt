@@ -5,15 +5,15 @@
 -- landings-areas  == on a map that opens they are numbers of its areas
 -- landings-few    == and no more than it has places
 -- Assumes nothing.
-use mathlib.Core.Path.{_≡_, refl, sym, ap, _∙_, subst}
+use mathlib.Core.Path.{_≡_, refl, sym, ap, subst}
 use mathlib.Core.Logic.{inl, inr}
 use mathlib.Core.Bool.{Bool}
-use mathlib.Core.List.{List, [], _∷_}
-use Prim.Native.Nat.{ℕ, zero, suc, _*_, _≤_, _<_}
+use mathlib.Core.List.{List}
+use Prim.Native.Nat.{ℕ, zero, suc, _≤_, _<_}
 use native.Mathlib.Omega.{arith}
 use lib.Dec.{eqb}
 use lib.ListN.{length, getD}
-use Rattle.count.specs.Below.{count, find}
+use Rattle.count.specs.Below.{find}
 use Rattle.count.proofs.Logic.{lt-or-ge}
 use Rattle.count.proofs.Below.{find-not, count-none, count-le}
 use Rattle.words.specs.Brackets.{Bracket, Balanced, step, number, first, size}
@@ -55,7 +55,7 @@ first-below b n k h =
     ]
 
 module _ (w : Word) (k : ℕ) where
-  landings-long : length (landingsIn w k) ≡ placesIn w Kind.area k
+  pub landings-long : length (landingsIn w k) ≡ placesIn w Kind.area k
   unfolding landingsIn
   landings-long =
       landings-length (number (seen square w)) (crossing w) (step (seen square w) (w .size)) (placesIn w Kind.area k)
@@ -65,8 +65,8 @@ module _ (w : Word) (k : ℕ) where
   unfolding placesIn size
   places-most = count-le (λ p. eqb (number (seen square w) p) k) (w .size)
 
-  landings-in : (P : ℕ → Type 0) → ((K : Family) → Balanced (seen K w) (w .size)) → ((p : ℕ) → p < w .size → P (number (seen square w) p))
-      → (i : ℕ) → i < length (landingsIn w k) → P (getD (landingsIn w k) i 0)
+  landings-in : (P : ℕ → Type 0) → ((K : Family) → Balanced (seen K w) (w .size))
+      → ((p : ℕ) → p < w .size → P (number (seen square w) p)) → (i : ℕ) → i < length (landingsIn w k) → P (getD (landingsIn w k) i 0)
   unfolding landingsIn placesIn
   landings-in P bal a i l =
       let b = seen square w in

@@ -1,4 +1,5 @@
 -- The tariff: laws.
+pub mod Cases
 pub mod Lists
 pub mod Order
 pub mod Held

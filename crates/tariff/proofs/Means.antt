@@ -20,14 +20,15 @@ use native.Mathlib.Nat.{mul-assoc, mul-le-mul-right, mul-pos, lt-of-lt-of-le}
 use native.Mathlib.Omega.{arith}
 use lib.IntN.{pos}
 use lib.ListN.{length, getD}
-use lib.Dec.{T, eqb, ltb, lit≤, ltb→lt, lt→ltb}
-use lib.Pow.{pow-pos, pow-mono, shl-lt}
+use lib.Dec.{T, eqb, lit≤, ltb→lt, lt→ltb}
+use lib.Pow.{pow-mono, shl-lt}
 use borrow.Author.Tests.{ne-eqb}
-use lib.Ieee.{Float, nan, inf, fin, up, down, binary64, low, emax, round, add, div, ofInt, ofBits, le}
-use lib.Ieee.Fits.{up-pos, down-pos}
+use lib.Ieee.{Float, nan, inf, fin, up, down, binary64, low, round, add, div, ofInt, ofBits, le}
+use lib.Ieee.Fits.{down-pos}
 use lib.Ieee.Exact.{HasValue, round-exact}
 use lib.Ieee.Order.{le-of-values, round-mono}
-use lib.Ieee.Positive.{positive, num, den, den-pos, own-value, value→cross, first-pos, positive-of-value, values-of-le, le-trans-positive, between}
+use lib.Ieee.Positive.{positive, num, den, den-pos, own-value, value→cross, first-pos, positive-of-value}
+use lib.Ieee.Positive.{values-of-le, le-trans-positive, between}
 use Rattle.count.proofs.Logic.{both-left, both-right}
 use Rattle.tariff.specs.declared.factor.Factor.{Factor}
 use Rattle.tariff.specs.declared.factor.Running.{Running}
@@ -64,7 +65,8 @@ near-positive c (fin false m e) p N =
     lt→ltb 0 m (first-pos m (up e) (some c (down e) (m * up e) (mul-pos p (down-pos e)) (N .low)))
 
 -- ---- the bounds of a sum, and the count, are numbers of the format
-exact : (c a b j : ℕ) → c ≤ 4096 → 0 < b → 13 + j ≤ 2098 → a * 2 ^ low binary64 ≡ c * 2 ^ j * b → HasValue (round binary64 false a b) false a b
+exact : (c a b j : ℕ) → c ≤ 4096 → 0 < b → 13 + j ≤ 2098 → a * 2 ^ low binary64 ≡ c * 2 ^ j * b
+    → HasValue (round binary64 false a b) false a b
 exact c a b j few p k e =
     round-exact binary64 false a b c j p (omega arith) (lt-of-lt-of-le (shl-lt 13 j (omega arith)) (pow-mono k)) e
 
@@ -147,7 +149,8 @@ near-bounds x N =
     )
 
 -- ---- one factor more
-add-is : (x y : Float) → T (plain x) → T (plain y) → add binary64 x y ≡ round binary64 false (num x * den y + num y * den x) (den x * den y)
+add-is : (x y : Float) → T (plain x) → T (plain y)
+    → add binary64 x y ≡ round binary64 false (num x * den y + num y * den x) (den x * den y)
 unfolding add
 add-is nan y p q = absurd p
 add-is (inf s) y p q = absurd p

@@ -3,13 +3,13 @@
 -- after-order     == a call with checks of its own after opening's gives the refusal of the first of all of them that fails
 -- factor-order    == the factor of an area: refusals in order, or its factor
 -- Assumes nothing.
-use mathlib.Core.Path.{_≡_, refl, sym, ap, _∙_, subst}
+use mathlib.Core.Path.{_≡_, refl, sym, _∙_, subst}
 use mathlib.Core.Logic.{inl, inr}
-use mathlib.Core.Bool.{Bool, true, false, _&&_}
+use mathlib.Core.Bool.{Bool, true, false}
 use mathlib.Core.List.{List, [], _∷_}
 use Prim.Native.Nat.{ℕ, zero, suc, _≤_, _<_}
 use native.Mathlib.Omega.{arith}
-use lib.Dec.{eqb, ltb, leb}
+use lib.Dec.{eqb}
 use borrow.Author.Tests.{ne-eqb}
 use lib.Ieee.{Float}
 use Rattle.count.specs.Below.{Decides, pick}
@@ -17,12 +17,12 @@ use Rattle.count.proofs.Logic.{lt-or-ge, pick-no}
 use Rattle.drawing.specs.Drawing.{Kind}
 use Rattle.drawing.specs.Session.{Answer, answer, refused, refusedWith}
 use Rattle.format.specs.Bytes.{sizeIn, wordIn}
-use Rattle.format.specs.Open.{OpenCheck, openRefusal, afterRefusal, afterRefusalWith, opened, openOf}
+use Rattle.format.specs.Open.{OpenCheck, openRefusal, afterRefusal, opened, openOf}
 use Rattle.format.specs.Refusals.{FirstFails, InOrder, bare}
 use Rattle.format.specs.Calls.{cellsIn, isNumber, landingsIn}
-use Rattle.format.proofs.Chain.{chain, Chain, Hold, chain-in-order}
+use Rattle.format.proofs.Chain.{chain, Chain, chain-in-order}
 use Rattle.format.proofs.Passes.{open-refusals}
-use Rattle.tariff.specs.Tariff.{factorAt, TariffFits, tariffFits, sumAcross, hasFactor, worth, rated}
+use Rattle.tariff.specs.Tariff.{factorAt, TariffFits, tariffFits, sumAcross, hasFactor, rated}
 use Rattle.tariff.specs.Maps.{factorOf}
 use Rattle.tariff.specs.Statements.{Priced, FactorCheck, factorIn}
 use Rattle.tariff.proofs.Lists.{tariff-decides, factor-decides, decides-true}
@@ -33,7 +33,8 @@ same-refusal : (A B : Type 0) (k j : ℕ) (xs ys : List ℕ)
 same-refusal A B k j xs ys e = let p : k ≡ j = cc in let q : xs ≡ ys = cc in cc
 
 -- checks a to e come first, and those up to f follow; P j says of the first what Q j says
-module _ {A B : Type 0} (P Q : ℕ → Type 0) (a e f : ℕ) (z : B) (v : A) (l : a ≤ suc e) (m : e ≤ f) (same : (j : ℕ) → j ≤ e → Q j ≡ P j) where
+module _ {A B : Type 0} (P Q : ℕ → Type 0) (a e f : ℕ) (z : B) (v : A) (l : a ≤ suc e) (m : e ≤ f)
+    (same : (j : ℕ) → j ≤ e → Q j ≡ P j) where
   to : (j : ℕ) → j ≤ e → Q j → P j
   to j h q = subst (λ X. X) (same j h) q
 
@@ -50,14 +51,17 @@ module _ {A B : Type 0} (P Q : ℕ → Type 0) (a e f : ℕ) (z : B) (v : A) (l 
   only-first j k lj lk F G =
       elim (lt-or-ge j k) [ inl b ↦ absurd (F .fails (G .before j lj b)) | inr g ↦ g ]
 
-  after-order : (k : ℕ) (r : Answer A) → InOrder bare P a e z (afterRefusal k (answer z)) → InOrder bare Q (suc e) f v r → InOrder bare Q a f v (afterRefusal k r)
+  pub after-order : (k : ℕ) (r : Answer A) → InOrder bare P a e z (afterRefusal k (answer z)) → InOrder bare Q (suc e) f v r
+      → InOrder bare Q a f v (afterRefusal k r)
   after-order zero r O R =
       let held : (j : ℕ) → a ≤ j → j ≤ e → Q j = λ j i h. from j h (O .answers .0 refl j i h) in
       record {
         refuses = λ j xs. (
           λ t.
               let n = R .refuses j xs .0 t in
-              (omega (arith, n .0), n .1, record { before = λ i b c. elim (lt-or-ge e i) [ inl g ↦ n .2 .before i g c | inr g ↦ held i b g ]; fails = n .2 .fails }, n .3),
+              let before : (i : ℕ) → a ≤ i → i < j → Q i
+              = λ i b c. elim (lt-or-ge e i) [ inl g ↦ n .2 .before i g c | inr g ↦ held i b g ] in
+              (omega (arith, n .0), n .1, record { before = before; fails = n .2 .fails }, n .3),
           λ n.
               elim (lt-or-ge e j) [
                 | inl g ↦ R .refuses j xs .1 (g, n .1, record { before = λ i b c. n .2 .before i (omega arith) c; fails = n .2 .fails }, n .3)

@@ -6,10 +6,10 @@
 -- sum-same        == areas with the same factors have the same sum
 -- factor-unread   == so an area of a map has the same factor by either, or the same refusal
 -- Assumes nothing.
-use mathlib.Core.Path.{_≡_, refl, sym, ap, _∙_, subst}
+use mathlib.Core.Path.{_≡_, refl, sym, ap, _∙_}
 use mathlib.Core.Bool.{Bool, true, false}
 use mathlib.Core.List.{List, [], _∷_}
-use Prim.Native.Nat.{ℕ, zero, suc, pred, _+_, _*_, _≤_, _<_}
+use Prim.Native.Nat.{ℕ, zero, suc, _+_, _*_, _≤_, _<_}
 use native.Mathlib.Omega.{arith}
 use lib.Dec.{eqb, ltb, leb}
 use borrow.Author.Tests.{ltb-true, leb-true}
@@ -18,21 +18,25 @@ use lib.ListN.{length, getD}
 use Rattle.count.specs.Below.{pick}
 use Rattle.count.proofs.Logic.{both-left, both-right, bool-same}
 use Rattle.drawing.specs.Drawing.{Kind}
-use Rattle.drawing.specs.Session.{Answer, answer, refused, refusedWith}
+use Rattle.drawing.specs.Session.{Answer, answer, refused}
 use Rattle.format.specs.Bytes.{sizeIn, wordIn}
 use Rattle.format.specs.Open.{openRefusal, afterRefusal, opened}
 use Rattle.format.specs.Calls.{cellsIn, isNumber, landingsIn}
 use Rattle.tariff.specs.declared.factor.Factor.{Factor}
 use Rattle.tariff.specs.declared.factor.Running.{Running}
-use Rattle.tariff.specs.Tariff.{ofKind, factorAt, allowed, TariffFits, tariffFits, begun, added, summed, sumAcross, hasFactor, worth, rated}
+use Rattle.tariff.specs.Tariff.{factorAt, allowed, TariffFits, tariffFits, begun, added, summed, sumAcross, hasFactor, worth, rated}
 use Rattle.tariff.specs.Maps.{factorOf}
-use Rattle.tariff.specs.Statements.{uses, SameUsed}
+use Rattle.tariff.specs.Statements.{SameUsed}
 use Rattle.tariff.proofs.Lists.{tariff-decides}
 use Rattle.tariff.proofs.Landings.{landings-areas}
 
+-- of kind 0 (p) or kind 1 (q)
+abbrev made : Bool → Bool → Float → Float → Float → Factor
+made p q x low high = pick p (Factor.Own x) (pick q (Factor.Held x low high) Factor.Unknown)
+
 kind-same : (p q : Bool) (x x′ low low′ high high′ : Float)
     → (pick p true q ≡ true → x ≡ x′) → (pick p false q ≡ true → low ≡ low′) → (pick p false q ≡ true → high ≡ high′)
-    → pick p (Factor.Own x) (pick q (Factor.Held x low high) Factor.Unknown) ≡ pick p (Factor.Own x′) (pick q (Factor.Held x′ low′ high′) Factor.Unknown)
+    → made p q x low high ≡ made p q x′ low′ high′
 kind-same true q x x′ low low′ high high′ a b c = ap Factor.Own (a refl)
 kind-same false true x x′ low low′ high high′ a b c = cc (a refl, b refl, c refl)
 kind-same false false x x′ low low′ high high′ a b c = refl
@@ -57,7 +61,8 @@ module _ (kinds : List ℕ) (values others : List Float) (S : SameUsed kinds val
   used-back = record { long = sym (S .long); used = λ i f l m u. sym (S .used i f l m u) }
 
 -- one list in the other's place
-others-fit : (v : ℕ) (kinds : List ℕ) (values others : List Float) → SameUsed kinds values others → TariffFits v kinds values → TariffFits v kinds others
+others-fit : (v : ℕ) (kinds : List ℕ) (values others : List Float) → SameUsed kinds values others → TariffFits v kinds values
+    → TariffFits v kinds others
 others-fit v kinds values others S F =
     record {
       bytes = F .bytes;
@@ -100,7 +105,9 @@ module _ (v : ℕ) (kinds : List ℕ) (values others : List Float) (S : SameUsed
     rated-same : rated v kinds others k js ≡ rated v kinds values k js
     unfolding rated
     rated-same =
-        ap (λ t. pick t (pick (hasFactor (factorAt kinds others k) (sumAcross kinds others js)) (answer (worth (factorAt kinds others k) (sumAcross kinds others js))) (refused 19)) (refused 18)) tariff-same
+        let f = factorAt kinds others k in
+        let r = sumAcross kinds others js in
+        ap (λ t. pick t (pick (hasFactor f r) (answer (worth f r)) (refused 19)) (refused 18)) tariff-same
         ∙ pick-same (tariffFits v kinds values) _ _ (refused 18)
         (λ t. let e = tariff-decides v kinds values .sound t .bytes in
         rw (factor-same kinds values others S k a (omega arith), across-same e))
