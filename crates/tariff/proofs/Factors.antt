@@ -1,7 +1,9 @@
 -- The factor of an area of a map: all that is said of it.
 --
 -- Answered s k kinds values y == what is known where y is answered: the checks passed, and y is the factor
--- factor-answered  == that it is
+-- factor-answered  == all of that holds
+-- area-allowed     == lists that fit say of each area what is allowed
+-- worth-own, worth-held, worth-unknown == what an area is given
 -- answer-near      == an answer lies between 1/128 and 128
 -- factored         == document 02, 4/14, of the factor of an area
 -- Assumes nothing.
@@ -69,7 +71,7 @@ worth-near (Factor.Own x) r a m h = near-within x a
 worth-near (Factor.Held x low high) r a m h = near-within (held x low high) (held-within x low high a)
 worth-near Factor.Unknown r a m h = m (ltb-true 0 (r .count) h)
 
-area-allowed : (v : ℕ) (kinds : List ℕ) (values : List Float) → TariffFits v kinds values → (j : ℕ) → 1 ≤ j → j ≤ v
+pub area-allowed : (v : ℕ) (kinds : List ℕ) (values : List Float) → TariffFits v kinds values → (j : ℕ) → 1 ≤ j → j ≤ v
     → allowed (factorAt kinds values j) ≡ true
 area-allowed v kinds values F zero a b = absurd (omega arith)
 area-allowed v kinds values F (suc i) a b = F .each i b
@@ -81,15 +83,15 @@ module _ (s : List ℕ) (k : ℕ) (kinds : List ℕ) (values : List Float) where
   abbrev js : List ℕ
   js = landingsIn (wordIn s) k
 
-  record Answered (y : Float) : Type 0 where
-    opens : openRefusal s ≡ 0
-    least : 1 ≤ k
-    most : k ≤ v
-    fits : TariffFits v kinds values
-    has : hasFactor (factorAt kinds values k) (sumAcross kinds values js) ≡ true
-    is : worth (factorAt kinds values k) (sumAcross kinds values js) ≡ y
+  pub record Answered (y : Float) : Type 0 where
+    pub opens : openRefusal s ≡ 0
+    pub least : 1 ≤ k
+    pub most : k ≤ v
+    pub fits : TariffFits v kinds values
+    pub has : hasFactor (factorAt kinds values k) (sumAcross kinds values js) ≡ true
+    pub is : worth (factorAt kinds values k) (sumAcross kinds values js) ≡ y
 
-  factor-answered : (y : Float) → factorOf s k kinds values ≡ answer y → Answered y
+  pub factor-answered : (y : Float) → factorOf s k kinds values ≡ answer y → Answered y
   unfolding factorOf opened rated
   factor-answered y e =
       let f = factorAt kinds values k in

@@ -4,7 +4,9 @@
 -- le-not-lt          == what is at most another isn't above it
 -- not-lt-le          == of two positive numbers one is at most the other, unless it's above it
 -- le-same            == a positive number is at most itself
--- within-positive    == a number within the bounds is finite and above 0
+-- least-positive, most-positive, within-positive == the bounds are finite and above 0, and so is a number within them
+-- held-fits          == what is allowed of a held factor
+-- held-cases         == it is its floor, its ceiling or itself
 -- held-inside        == a number that lies between its floor and its ceiling is held as it is
 -- held-between       == a held number lies between them
 -- held-within        == and within the bounds
@@ -104,7 +106,6 @@ unfolding held
 held-inside x low high l h =
     pick-no (lt x low) low (pick (lt high x) high x) (le-not-lt low x l) ∙ pick-no (lt high x) high x (le-not-lt x high h)
 
--- what is allowed of a held factor
 record HeldFits (x low high : Float) : Type 0 where
   fits : within x ≡ true
   floor : within low ≡ true
@@ -124,7 +125,6 @@ held-fits x low high e =
       ordered = not-true (lt high low) (both-right abc (not (lt high low)) e);
     }
 
--- it is the floor, the ceiling or the number itself
 held-cases : (P : Float → Type 0) (x low high : Float) → P low → P high → (lt x low ≡ false → lt high x ≡ false → P x)
     → P (held x low high)
 unfolding held

@@ -2,6 +2,9 @@
 --
 -- landings-length == one for each side
 -- landings-each   == what holds of the area across every side holds of each of them
+-- first-below     == an area that has places has a first one
+-- landings-long   == in a word there are as many as the area has places
+-- landings-in     == landings-each, in a word that is balanced in both families
 -- landings-areas  == on a map that opens they are numbers of its areas
 -- landings-few    == and no more than it has places
 -- Assumes nothing.
@@ -44,7 +47,6 @@ module _ (area cross along : ℕ → ℕ) where
   landings-each P n a s (suc d) p zero l h = a p h
   landings-each P n a s (suc d) p (suc i) l h = landings-each P n a s d (along p) i (omega arith) (s p h)
 
--- an area that has places has a first one
 first-below : (b : ℕ → Bracket) (n k : ℕ) → 0 < size b n k → first b n k < n
 unfolding first size
 first-below b n k h =

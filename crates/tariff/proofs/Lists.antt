@@ -3,7 +3,7 @@
 -- decides-true     == a test decides that it holds
 -- tariff-decides   == the test of check 18 decides its proposition
 -- knows f          == how many factors f adds: 1, or 0 where it is not known
--- added-count      == a sum with one area more has as many more in it
+-- added-count, added-most == a sum with one area more has as many more in it
 -- summed-least, summed-most == no factor is taken out of a sum, and no area adds two
 -- count-known      == a sum across areas has more in it exactly if some area is known
 -- factor-decides   == the test of check 19 decides its proposition

@@ -4,8 +4,12 @@
 -- the format has, for c up to 4,096, and rounding keeps the order: so what is rounded stays between them, sum after sum.
 --
 -- Near c x        == the number x lies between c / 128 and 128 c
+-- near-positive   == for a c above 0 it is above 0
+-- exact           == c up to 4,096 times a power of 2 is a number that the format has
+-- floor-exact, ceiling-exact, count-exact == so c / 128, 128 c and c are
 -- near-round      == a fraction that lies there is rounded to a number that does
 -- near-within     == a number within the bounds is Near 1
+-- add-is, div-is  == a sum and a quotient are their fractions, rounded
 -- near-add        == one factor more
 -- near-mean       == a sum of c, divided by c
 -- near-added, near-summed == the sum of factors that are allowed

@@ -1,6 +1,9 @@
 -- The factor's checks in order: opening's, then 15, 18 and 19.
 --
 -- after-order     == a call with checks of its own after opening's gives the refusal of the first of all of them that fails
+-- tested          == what three tests come to is what a chain of them does
+-- own-order       == the checks after opening's
+-- check-open      == the checks up to 12 are opening's
 -- factor-order    == the factor of an area: refusals in order, or its factor
 -- Assumes nothing.
 use mathlib.Core.Path.{_≡_, refl, sym, _∙_, subst}

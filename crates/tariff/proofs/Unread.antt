@@ -1,5 +1,6 @@
 -- What a kind doesn't use changes nothing.
 --
+-- made p q x low high == a factor of kind 0 (p), of kind 1 (q) or not known
 -- kind-same       == a factor is made of what its kind uses
 -- factor-same     == lists that agree in all that is used have the same factors
 -- tariff-same     == and both or neither pass check 18
@@ -30,7 +31,6 @@ use Rattle.tariff.specs.Statements.{SameUsed}
 use Rattle.tariff.proofs.Lists.{tariff-decides}
 use Rattle.tariff.proofs.Landings.{landings-areas}
 
--- of kind 0 (p) or kind 1 (q)
 abbrev made : Bool → Bool → Float → Float → Float → Factor
 made p q x low high = pick p (Factor.Own x) (pick q (Factor.Held x low high) Factor.Unknown)
 
