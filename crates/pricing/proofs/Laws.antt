@@ -12,6 +12,7 @@
 -- lists-bytes, lists-numbers == lists of another length
 -- Assumes nothing.
 use mathlib.Core.Path.{_≡_, refl, sym, ap, _∙_}
+use mathlib.Core.Logic.{inl, inr}
 use mathlib.Core.Bool.{Bool, true, false, not, _&&_}
 use mathlib.Core.List.{List}
 use Prim.Native.Nat.{ℕ, suc, pred, _+_, _-_, _*_, _≤_, _<_}
@@ -23,7 +24,8 @@ use lib.IntN.{pos}
 use lib.ListN.{length, getD}
 use borrow.Author.Tests.{eq-eqb, ne-eqb, le-leb, lt-leb}
 use Rattle.count.specs.Below.{pick, all}
-use Rattle.count.proofs.Below.{all-from, all-fails}
+use Rattle.count.proofs.Logic.{same-or-not, true-or-false, true-not-false}
+use Rattle.count.proofs.Below.{all-from, all-has}
 use Rattle.tariff.specs.declared.factor.Factor.{Factor}
 use Rattle.tariff.specs.declared.factor.Running.{Running}
 use Rattle.tariff.specs.Tariff.{least, most, within, held, ofKind, factorAt, allowed, tariffFits, plus, added, mean}
@@ -123,33 +125,91 @@ module _ (x low high : Float) where
           ∙ sym (first-holds ∙ ap (λ t. t && within high && not (lt high low)) (not-is b false n) ∙ ap (λ t. within high && not t) e)
 
 -- ---- what the lists say of an area
-module _ (kinds : List ℕ) (values : List Float) (k i at b : ℕ) (hi : i ≡ k - 1) (ha : at ≡ 3 * i) (hb : b ≡ getD kinds i 0) where
-  index-is : (i ≡ pred k) × (at ≡ 3 * pred k)
-  index-is = (omega arith, omega arith)
-
-  made : factorAt kinds values k ≡ ofKind b (getD values at nan) (getD values (at + 1) nan) (getD values (at + 2) nan)
+module _ (kinds : List ℕ) (values : List Float) (k : ℕ) where
+  made : factorAt kinds values k
+      ≡ ofKind (getD kinds (k - 1) 0) (getD values (3 * (k - 1)) nan) (getD values (3 * (k - 1) + 1) nan) (getD values (3 * (k - 1) + 2) nan)
   unfolding factorAt
-  made = rw (sym (index-is .1), sym (index-is .0), sym hb)
+  made = let e : pred k ≡ k - 1 = omega arith in rw e
 
-  pub at-own : b ≡ 0 → Factor.Own (getD values at nan) ≡ factorAt kinds values k
+  pub at-own : getD kinds (k - 1) 0 ≡ 0 → Factor.Own (getD values (3 * (k - 1)) nan) ≡ factorAt kinds values k
   unfolding ofKind
-  at-own e = sym (made ∙ rw (eq-eqb b 0 e))
+  at-own e = sym (made ∙ rw (eq-eqb (getD kinds (k - 1) 0) 0 e))
 
-  pub at-held : (b ≡ 0 → ⊥) → b ≡ 1 → Factor.Held (getD values at nan) (getD values (at + 1) nan) (getD values (at + 2) nan) ≡ factorAt kinds values k
-  unfolding ofKind
-  at-held d e = sym (made ∙ rw (ne-eqb b 0 d, eq-eqb b 1 e))
+  module _ (d : getD kinds (k - 1) 0 ≡ 0 → ⊥) where
+    pub at-held : getD kinds (k - 1) 0 ≡ 1
+        → Factor.Held (getD values (3 * (k - 1)) nan) (getD values (3 * (k - 1) + 1) nan) (getD values (3 * (k - 1) + 2) nan) ≡ factorAt kinds values k
+    unfolding ofKind
+    at-held e = sym (made ∙ rw (ne-eqb (getD kinds (k - 1) 0) 0 d, eq-eqb (getD kinds (k - 1) 0) 1 e))
 
-  pub at-unknown : (b ≡ 0 → ⊥) → (b ≡ 1 → ⊥) → Factor.Unknown ≡ factorAt kinds values k
-  unfolding ofKind
-  at-unknown d e = sym (made ∙ rw (ne-eqb b 0 d, ne-eqb b 1 e))
+    pub at-unknown : (getD kinds (k - 1) 0 ≡ 1 → ⊥) → Factor.Unknown ≡ factorAt kinds values k
+    unfolding ofKind
+    at-unknown e = sym (made ∙ rw (ne-eqb (getD kinds (k - 1) 0) 0 d, ne-eqb (getD kinds (k - 1) 0) 1 e))
 
 -- ---- an entry
 module _ (kinds : List ℕ) (values : List Float) (i : ℕ) where
-  pub entry-above : (b : ℕ) → b ≡ getD kinds i 0 → 2 < b → false ≡ entryFits kinds values i
+  pub entry-above : 2 < getD kinds i 0 → false ≡ entryFits kinds values i
   unfolding entryFits
-  entry-above b h l = sym (rw (sym h, lt-leb b 2 l))
+  entry-above l = sym (rw (lt-leb (getD kinds i 0) 2 l))
 
-  pub entry-allowed : (b : ℕ) (f : Factor) (r : Bool) → b ≡ getD kinds i 0 → b ≤ 2 → f ≡ factorAt kinds values (i + 1) → r ≡ allowed f
+  pub entry-allowed : (f : Factor) (r : Bool) → getD kinds i 0 ≤ 2 → f ≡ factorAt kinds values (i + 1) → r ≡ allowed f
       → r ≡ entryFits kinds values i
   unfolding entryFits
-  entry-allowed b f r h l e g = g ∙ ap allowed e ∙ sym (rw (sym h, le-leb b 2 l) (ap (λ n. allowed (factorAt kinds values n)) (sym (add-one i))))
+  entry-allowed f r l e g =
+      g ∙ ap allowed e ∙ ap (λ n. allowed (factorAt kinds values n)) (add-one i)
+      ∙ sym (ap (λ t. t && allowed (factorAt kinds values (suc i))) (le-leb (getD kinds i 0) 2 l))
+
+-- ---- the loop over the areas
+module _ (kinds : List ℕ) (values : List Float) (v : ℕ) where
+  pub lists-bytes : (length kinds ≡ v → ⊥) → false ≡ tariffFits v kinds values
+  unfolding tariffFits
+  lists-bytes d = sym (rw (ne-eqb (length kinds) v d))
+
+  module _ (hb : length kinds ≡ v) where
+    pub lists-numbers : (length values ≡ 3 * v → ⊥) → false ≡ tariffFits v kinds values
+    unfolding tariffFits
+    lists-numbers d = sym (rw (eq-eqb (length kinds) v hb, ne-eqb (length values) (3 * v) d))
+
+  pub record Fitting (i : ℕ) : Type 0 where
+    pub bytes : length kinds ≡ v
+    pub numbers : length values ≡ 3 * v
+    pub most : i ≤ v
+    pub each : (j : ℕ) → j < i → entryFits kinds values j ≡ true
+
+  pub fitting-start : length kinds ≡ v → length values ≡ 3 * v → Fitting 0
+  fitting-start hb hn = record { bytes = hb; numbers = hn; most = omega arith; each = λ j l. absurd (omega arith) }
+
+  module _ (i : ℕ) (F : Fitting i) where
+    lists-are : tariffFits v kinds values ≡ all (entryFits kinds values) v
+    unfolding tariffFits entryFits
+    lists-are = rw (eq-eqb (length kinds) v (F .bytes), eq-eqb (length values) (3 * v) (F .numbers))
+
+    pub fitting-end : i ≡ v → true ≡ tariffFits v kinds values
+    fitting-end e = sym (lists-are ∙ all-from (entryFits kinds values) v (λ j l. F .each j (omega arith)))
+
+    module _ (d : i ≡ v → ⊥) where
+      pub fitting-entry : InLists kinds values (i + 1)
+      fitting-entry =
+          record { least = omega arith; kind = omega (arith, F .bytes, F .most); numbers = omega (arith, F .numbers, F .most) }
+
+      module _ (r : Bool) (h : r ≡ entryFits kinds values i) where
+        pub fitting-not : not r ≡ true → false ≡ tariffFits v kinds values
+        fitting-not n =
+            let z : entryFits kinds values i ≡ false = sym h ∙ not-is r true n in
+            sym (lists-are
+            ∙ elim (true-or-false (all (entryFits kinds values) v)) [
+              | inl t ↦ absurd (true-not-false (entryFits kinds values i) (all-has (entryFits kinds values) v t i (omega (arith, F .most))) z)
+              | inr f ↦ f
+            ])
+
+        pub fitting-on : not r ≡ false → Fitting (i + 1)
+        fitting-on n =
+            record {
+              bytes = F .bytes;
+              numbers = F .numbers;
+              most = omega (arith, F .most);
+              each = λ j l.
+                  elim (same-or-not j i) [
+                    | inl e ↦ ap (entryFits kinds values) e ∙ sym h ∙ not-is r false n
+                    | inr o ↦ F .each j (omega arith)
+                  ];
+            }

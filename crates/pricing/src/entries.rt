@@ -52,7 +52,8 @@ pub fn factor_in(kinds: &[u8], values: &[f64], area: Area) -> Factor
     requires { ⌜ InLists (now kinds) (now values) (area .0) ⌝ }
     ensures { λ r. ⌜ r ≡ factorAt (now (kinds .entry)) (now (values .entry)) (area .0) ⌝ }
 {
-    let i = area.0 - 1;
+    let number = area.0;
+    let i = number - 1;
     let kind = kinds[i];
     let at = 3 * i;
     if kind == 0 {

@@ -13,44 +13,44 @@ shared-slice-read-kind c = search needs
 mul-at : tie.Need-mul-at
 mul-at c = search needs
 
-mul-t10 : tie.Need-mul-t10
-mul-t10 c = search needs
+mul-t11 : tie.Need-mul-t11
+mul-t11 c = search needs
 
-shared-slice-read-t12 : tie.Need-shared-slice-read-t12
-shared-slice-read-t12 c = search needs
+shared-slice-read-t13 : tie.Need-shared-slice-read-t13
+shared-slice-read-t13 c = search needs
 
 returns : tie.Need-returns
-returns c = ?
+returns c = search at-own
 
-mul-t13 : tie.Need-mul-t13
-mul-t13 c = search needs
+mul-t14 : tie.Need-mul-t14
+mul-t14 c = search needs
 
-shared-slice-read-t15 : tie.Need-shared-slice-read-t15
-shared-slice-read-t15 c = search needs
+shared-slice-read-t16 : tie.Need-shared-slice-read-t16
+shared-slice-read-t16 c = search needs
 
-add-t16 : tie.Need-add-t16
-add-t16 c = search needs
+add-t17 : tie.Need-add-t17
+add-t17 c = search needs
 
-mul-t17 : tie.Need-mul-t17
-mul-t17 c = search needs
+mul-t18 : tie.Need-mul-t18
+mul-t18 c = search needs
 
-shared-slice-read-t19 : tie.Need-shared-slice-read-t19
-shared-slice-read-t19 c = search needs
+shared-slice-read-t20 : tie.Need-shared-slice-read-t20
+shared-slice-read-t20 c = search needs
 
-add-t20 : tie.Need-add-t20
-add-t20 c = search needs
+add-t21 : tie.Need-add-t21
+add-t21 c = search needs
 
-mul-t21 : tie.Need-mul-t21
-mul-t21 c = search needs
+mul-t22 : tie.Need-mul-t22
+mul-t22 c = search needs
 
-shared-slice-read-t23 : tie.Need-shared-slice-read-t23
-shared-slice-read-t23 c = search needs
+shared-slice-read-t24 : tie.Need-shared-slice-read-t24
+shared-slice-read-t24 c = search needs
 
 returns-2 : tie.Need-returns-2
-returns-2 c = ?
+returns-2 c = search at-held
 
 returns-3 : tie.Need-returns-3
-returns-3 c = ?
+returns-3 c = search at-unknown
 
 pub factor-in-spec : {M : Type 1} → statement M
 factor-in-spec =
@@ -59,16 +59,16 @@ factor-in-spec =
     sub-i
     shared-slice-read-kind
     mul-at
-    mul-t10
-    shared-slice-read-t12
+    mul-t11
+    shared-slice-read-t13
     returns
-    mul-t13
-    shared-slice-read-t15
-    add-t16
-    mul-t17
-    shared-slice-read-t19
-    add-t20
-    mul-t21
-    shared-slice-read-t23
+    mul-t14
+    shared-slice-read-t16
+    add-t17
+    mul-t18
+    shared-slice-read-t20
+    add-t21
+    mul-t22
+    shared-slice-read-t24
     returns-2
     returns-3)
