@@ -5,10 +5,12 @@
 -- book-call      == the answer of a call at any number, refusals included
 -- session-same   == sessions are alike where all answers are
 -- book-session   == so is every session
+-- first-below    == the first place of a number that some place has stands in the word
 -- lands-agree    == the point (area) across a place
 -- join-agrees    == the search for a joining border
 -- numbers-agree  == the book has these numbers and no others
 -- book-first, book-size, book-neighbours, book-joining == the book on point and area numbers, refusals included
+-- book-landings  == the areas across the sides of an area, in walk order
 -- Assumes nothing.
 use mathlib.Core.Path.{_≡_, refl, sym, ap, ap₂, _∙_}
 use mathlib.Core.Logic.{inl, inr}
@@ -18,25 +20,26 @@ use Prim.Native.Nat.{ℕ, zero, suc, pred, _+_, _<_, _≤_}
 use native.Mathlib.Omega.{arith}
 use lib.Dec.{eqb, ltb, leb}
 use borrow.Author.Tests.{eqb-true, eq-eqb, ltb-true, leb-true}
-use Rattle.count.specs.Below.{pick}
+use Rattle.count.specs.Below.{pick, find}
 use Rattle.count.proofs.Logic.{lt-or-ge, true-or-false, both-left, both-right, bool-same}
 use Rattle.count.proofs.Below.{find-not, count-none}
 use Rattle.words.specs.Brackets.{Bracket, step, number, first, size}
-use Rattle.words.specs.declared.family.Family.the-variants.{Round as round}
-use Rattle.words.specs.Word.{seen, crossing}
+use Rattle.words.specs.declared.family.Family.the-variants.{Round as round, Square as square}
+use Rattle.words.specs.Word.{Word, seen, crossing}
 use Rattle.words.proofs.Step.{step-below}
 use Rattle.words.proofs.Numbers.{openings}
-use Rattle.drawing.specs.Drawing.{Drawing, Kind, borders, ends, other, turn, cells, endAt, positionOf}
+use Rattle.drawing.specs.Drawing.{Drawing, Kind, borders, ends, other, turn, around, cells, endAt, positionOf}
 use Rattle.drawing.specs.Session.{Answer, answer, refused, Call, placeAfter, session}
 use Rattle.drawing.specs.Book.{placeOf, numberAt, answerAt, bookAnswer, bookSession, noSuch, hasNumber, firstPosition, endsOn, joinFrom}
-use Rattle.drawing.specs.Book.{bookFirst, bookSize, bookNeighbours, bookJoining}
-use Rattle.drawing.proofs.Neighbours.{neighbours-same}
+use Rattle.drawing.specs.Book.{bookFirst, bookSize, bookNeighbours, bookLandings, bookJoining}
+use Rattle.drawing.specs.Neighbours.{landings}
+use Rattle.drawing.proofs.Neighbours.{neighbours-same, landings-same}
 use Rattle.format.specs.Pack.{wordOf}
-use Rattle.format.specs.Calls.{moveIn, atPlace, firstIn, placesIn, neighboursIn, joinIn}
+use Rattle.format.specs.Calls.{familyOfKind, moveIn, atPlace, firstIn, placesIn, neighboursIn, landingsIn, joinIn}
 use Rattle.agreement.specs.Toured.{Toured}
 use Rattle.agreement.proofs.Positions.{partner, end-other, partner-below}
 use Rattle.agreement.proofs.Nesting.{word-balanced, cross-mate}
-use Rattle.agreement.proofs.Steps.{cellWord, around-step, turn-around, turn-end, entry-back}
+use Rattle.agreement.proofs.Steps.{cellWord, around-end, around-step, turn-around, turn-end, entry-back}
 use Rattle.agreement.proofs.Cells.{number-agrees, lowest-agrees, turn-lowest, first-agrees, size-agrees}
 use Rattle.agreement.proofs.Counts.{cells-agree}
 
@@ -56,17 +59,15 @@ no-borders D =
     (λ t. let z : borders D ≡ 0 = eqb-true (borders D) 0 t in eq-eqb (ends D) 0 (omega arith))
     (λ t. let z : ends D ≡ 0 = eqb-true (ends D) 0 t in eq-eqb (borders D) 0 (omega arith))
 
--- a point number without a first place has no places
-no-places : (D : Drawing) (k : ℕ) → ends D ≤ first (seen round (wordOf D)) (ends D) k → placesIn (wordOf D) Kind.point k ≡ 0
-unfolding placesIn size first wordOf
-no-places D k g =
-    let has : ℕ → Bool = λ p. eqb (number (seen round (wordOf D)) p) k in
-    count-none has (ends D) (λ p l. find-not has (ends D) p (omega arith))
-
--- a search of no places finds nothing
-no-search : (D : Drawing) (v h p : ℕ) → joinFrom D v 0 h ≡ joinIn (wordOf D) v 0 p
-unfolding joinFrom joinIn
-no-search D v h p = refl
+-- a search that ends past the word has found the number nowhere
+pub first-below : (w : Word) (c : Kind) (k : ℕ) → 0 < placesIn w c k → first (seen (familyOfKind c) w) (w .size) k < w .size
+unfolding placesIn size first
+first-below w c k some =
+    let has : ℕ → Bool = λ p. eqb (number (seen (familyOfKind c) w) p) k in
+    elim (lt-or-ge (find has (w .size)) (w .size)) [
+      | inl l ↦ l
+      | inr g ↦ absurd (omega (arith, count-none has (w .size) (λ p l. find-not has (w .size) p (omega arith))))
+    ]
 
 module _ {D : Drawing} (T : Toured D) where
   pub answer-agrees : (c : Call) (p : ℕ) → p < ends D → answerAt D c (endAt D p) ≡ moveIn (wordOf D) c p
@@ -100,29 +101,33 @@ module _ {D : Drawing} (T : Toured D) where
       ap (numberAt D c) (sym (end-other T p l)) ∙ number-agrees T c (partner D p) (partner-below T p l)
       ∙ ap (number (cellWord D c)) (cross-mate T p l)
 
-  pub join-agrees : (v j p : ℕ) → p < ends D → joinFrom D v j (endAt D p) ≡ joinIn (wordOf D) v j p
+  -- from position p on; where no place is looked at, any p will do
+  pub join-agrees : (v j p : ℕ) → (0 < j → p < ends D) → joinFrom D v j (endAt D p) ≡ joinIn (wordOf D) v j p
   unfolding joinFrom joinIn wordOf
-  join-agrees v zero p l = refl
-  join-agrees v (suc j) p l =
+  join-agrees v zero p some = refl
+  join-agrees v (suc j) p some =
+      let l : p < ends D = some (omega arith) in
       let b : ℕ → Bracket = seen round (wordOf D) in
       let lands : numberAt D Kind.point (other (endAt D p)) ≡ number b (crossing (wordOf D) p)
       = lands-agree Kind.point p l in
       let here : placeOf D (endAt D p) ≡ suc p = ap suc (T .meets .position-end p l) in
       let rest : joinFrom D v j (turn D (endAt D p)) ≡ joinIn (wordOf D) v j (step b (ends D) p)
       = ap (joinFrom D v j) (turn-end T p l)
-      ∙ join-agrees v j (step b (ends D) p) (step-below b (ends D) (word-balanced T round) p l) in
+      ∙ join-agrees v j (step b (ends D) p) (λ s. step-below b (ends D) (word-balanced T round) p l) in
       λ i. elim (eqb (lands i) v) [ true ↦ here i | false ↦ rest i ]
+
+  -- the word has a letter for each end
+  first-end : (c : Kind) (k : ℕ) → 0 < placesIn (wordOf D) c k → first (cellWord D c) (ends D) k < ends D
+  unfolding wordOf
+  first-end c k some = first-below (wordOf D) c k some
 
   -- from the first place of point u once round; where there is no such point nothing is looked at
   join-round : (u v : ℕ) → joinFrom D v (endsOn D Kind.point u) (endAt D (firstPosition D Kind.point u))
       ≡ joinIn (wordOf D) v (placesIn (wordOf D) Kind.point u) (first (seen round (wordOf D)) (ends D) u)
   join-round u v =
       let b : ℕ → Bracket = seen round (wordOf D) in
-      rw (size-agrees T Kind.point u, first-agrees T Kind.point u) (
-      elim (lt-or-ge (first b (ends D) u) (ends D)) [
-        | inl l ↦ join-agrees v (placesIn (wordOf D) Kind.point u) (first b (ends D) u) l
-        | inr g ↦ rw (no-places D u g) (no-search D v (endAt D (first b (ends D) u)) (first b (ends D) u))
-      ])
+      rw (size-agrees T Kind.point u, first-agrees T Kind.point u)
+      (join-agrees v (placesIn (wordOf D) Kind.point u) (first b (ends D) u) (first-end Kind.point u))
 
   pub numbers-agree : (c : Kind) (k : ℕ) → hasNumber D c k ≡ isNumbered D c k
   unfolding hasNumber
@@ -147,6 +152,15 @@ module _ {D : Drawing} (T : Toured D) where
       (neighbours-same (numberAt D Kind.area) other (number (cellWord D Kind.area)) (crossing (wordOf D)) (endAt D) (positionOf D) (ends D)
       (T .meets .end-below) (T .meets .position-below) (T .meets .end-position)
       (number-agrees T Kind.area) (lands-agree Kind.area) (cells D Kind.area) k)
+
+  pub book-landings : (k : ℕ) → bookLandings D k ≡ landingsIn (wordOf D) k
+  unfolding bookLandings landingsIn wordOf
+  book-landings k =
+      let b : ℕ → Bracket = cellWord D Kind.area in
+      ap₂ (λ (d p : ℕ). landings (numberAt D Kind.area) other (around D Kind.area) d (endAt D p)) (size-agrees T Kind.area k) (first-agrees T Kind.area k)
+      ∙ landings-same (numberAt D Kind.area) other (around D Kind.area) (number b) (crossing (wordOf D)) (step b (ends D)) (endAt D) (ends D)
+      (lands-agree Kind.area) (around-end T Kind.area) (step-below b (ends D) (word-balanced T square))
+      (placesIn (wordOf D) Kind.area k) (first b (ends D) k) (first-end Kind.area k)
 
   pub book-joining : (u v : ℕ)
       → bookJoining D u v

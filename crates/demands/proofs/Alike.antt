@@ -4,30 +4,31 @@
 -- alike-call       == the same answer to every call at every number
 -- alike-first, alike-places, alike-lowest == the same first places, sizes and lowest positions
 -- alike-neighbours == the same neighbour counts
+-- alike-landings   == the same areas across the sides of an area, in walk order
 -- alike-joining    == the same joining borders
 -- Assumes nothing.
 use mathlib.Core.Path.{_≡_, refl, sym, ap, ap₂, _∙_, subst}
-use mathlib.Core.Logic.{_⊎_, inl, inr}
+use mathlib.Core.Logic.{inl, inr}
 use mathlib.Core.Bool.{Bool, true, false, _&&_}
 use Prim.Native.Nat.{ℕ, zero, suc, pred, _<_, _≤_}
 use native.Mathlib.Omega.{arith}
 use lib.Dec.{eqb, ltb, leb}
 use borrow.Author.Tests.{ltb-true, leb-true}
 use Rattle.count.specs.Below.{pick}
-use Rattle.count.proofs.Search.{find-not}
-use Rattle.count.proofs.Counts.{count-none}
-use Rattle.count.proofs.Logic.{lt-or-ge, true-or-false, both-left, both-right, pick-yes, pick-no}
-use Rattle.words.specs.Brackets.{Balanced, mate, step, back, number, isFirst, isLast, first, size}
+use Rattle.count.proofs.Logic.{true-or-false, both-left, both-right, pick-no}
+use Rattle.words.specs.Brackets.{Bracket, Balanced, mate, step, number, first}
 use Rattle.words.specs.declared.family.Family.{Family}
 use Rattle.words.specs.declared.family.Family.the-variants.{Round as round, Square as square}
 use Rattle.words.specs.Word.{Letter, Word, seen, crossing, view}
 use Rattle.words.proofs.Step.{step-below}
 use Rattle.words.proofs.Same.{mate-same, step-same, back-same, number-same, isFirst-same, isLast-same, first-same, size-same}
 use Rattle.drawing.specs.Drawing.{Kind}
-use Rattle.drawing.specs.Session.{Answer, answer, refused, Call}
-use Rattle.drawing.proofs.Neighbours.{neighbours-same}
+use Rattle.drawing.specs.Session.{answer, refused, Call}
+use Rattle.drawing.specs.Neighbours.{landings}
+use Rattle.drawing.proofs.Neighbours.{neighbours-same, landings-same}
 use Rattle.words.proofs.Crossing.{crossing-below}
-use Rattle.format.specs.Calls.{familyOfKind, moveIn, atPlace, firstIn, placesIn, neighboursIn, joinIn}
+use Rattle.format.specs.Calls.{familyOfKind, moveIn, atPlace, firstIn, placesIn, neighboursIn, landingsIn, joinIn}
+use Rattle.agreement.proofs.Book.{first-below}
 
 pub record Alike (v w : Word) : Type 0 where
   pub sizes : v .size ≡ w .size
@@ -101,19 +102,31 @@ join-step w v k p = chosen (eqb (number (seen round w) (crossing w p)) v)
     chosen false = refl
 
 module _ (n : ℕ) (f g : ℕ → Letter) (same : (p : ℕ) → p < n → f p ≡ g p) (nested : (K : Family) → Balanced (seen K (word n g)) n) where
-  join-same : (v k p : ℕ) → p < n → joinIn (word n f) v k p ≡ joinIn (word n g) v k p
-  join-same v zero p l = unfold joinIn in refl
-  join-same v (suc k) p l =
+  -- the point (area) across a place
+  lands-same : (K : Family) (p : ℕ) → p < n
+      → number (seen K (word n f)) (crossing (word n f) p) ≡ number (seen K (word n g)) (crossing (word n g) p)
+  lands-same K p l =
       let q : ℕ = crossing (word n g) p in
       let below : q < n = crossing-below (word n g) nested p l in
+      ap (number (seen K (word n f))) (crossing-same n f g same p l)
+      ∙ number-same (seen K (word n f)) (seen K (word n g)) n (seen-same n f g same K) q (omega arith)
+
+  -- the next place about a point (along an area), which is a place too
+  moves-same : (K : Family) (p : ℕ) → p < n → step (seen K (word n f)) n p ≡ step (seen K (word n g)) n p
+  moves-same K p l = step-same (seen K (word n f)) (seen K (word n g)) n (seen-same n f g same K) p l
+
+  moves-below : (K : Family) (p : ℕ) → p < n → step (seen K (word n g)) n p < n
+  moves-below K p l = step-below (seen K (word n g)) n (nested K) p l
+
+  join-same : (v k p : ℕ) → (0 < k → p < n) → joinIn (word n f) v k p ≡ joinIn (word n g) v k p
+  join-same v zero p some = unfold joinIn in refl
+  join-same v (suc k) p some =
+      let l : p < n = some (omega arith) in
+      let q : ℕ = crossing (word n g) p in
       let at : ℕ = step (seen round (word n g)) n p in
-      let next : joinIn (word n f) v k at ≡ joinIn (word n g) v k at =
-      join-same v k at (step-below (seen round (word n g)) n (nested round) p l) in
-      let here : number (seen round (word n f)) (crossing (word n f) p) ≡ number (seen round (word n g)) q =
-      ap (number (seen round (word n f))) (crossing-same n f g same p l)
-      ∙ number-same (seen round (word n f)) (seen round (word n g)) n (seen-same n f g same round) q (omega arith) in
-      let moves : step (seen round (word n f)) n p ≡ at =
-      step-same (seen round (word n f)) (seen round (word n g)) n (seen-same n f g same round) p l in
+      let next : joinIn (word n f) v k at ≡ joinIn (word n g) v k at = join-same v k at (λ s. moves-below round p l) in
+      let here : number (seen round (word n f)) (crossing (word n f) p) ≡ number (seen round (word n g)) q = lands-same round p l in
+      let moves : step (seen round (word n f)) n p ≡ at = moves-same round p l in
       join-step (word n f) v k p
       ∙ ap (λ x. pick (eqb x v) (suc p) (joinIn (word n f) v k (step (seen round (word n f)) n p))) here
       ∙ ap (λ x. pick (eqb (number (seen round (word n g)) q) v) (suc p) (joinIn (word n f) v k x)) moves
@@ -128,8 +141,17 @@ module _ (n : ℕ) (f g : ℕ → Letter) (same : (p : ℕ) → p < n → f p �
       let alike-area : (p : ℕ) → p < n → area p ≡ area′ p
       = λ p l. number-same (seen square (word n f)) (seen square (word n g)) n (seen-same n f g same square) p (omega arith) in
       neighbours-same area (crossing (word n f)) area′ (crossing (word n g)) (λ p. p) (λ p. p) n
-      (λ p l. l) (λ p l. l) (λ p l. refl) alike-area
-      (λ p l. ap area (crossing-same n f g same p l) ∙ alike-area (crossing (word n g) p) (crossing-below (word n g) nested p l)) v k
+      (λ p l. l) (λ p l. l) (λ p l. refl) alike-area (lands-same square) v k
+
+  landings-alike : (k : ℕ) → landingsIn (word n f) k ≡ landingsIn (word n g) k
+  unfolding landingsIn
+  landings-alike k =
+      let b : ℕ → Bracket = seen square (word n f) in
+      let c : ℕ → Bracket = seen square (word n g) in
+      ap₂ (λ (d p : ℕ). landings (number b) (crossing (word n f)) (step b n) d p) (places-alike n f g same Kind.area k)
+      (first-same b c n (seen-same n f g same square) k)
+      ∙ landings-same (number b) (crossing (word n f)) (step b n) (number c) (crossing (word n g)) (step c n) (λ p. p) n
+      (lands-same square) (moves-same square) (moves-below square) (placesIn (word n g) Kind.area k) (first c n k) (first-below (word n g) Kind.area k)
 
 -- any two words that are alike are words of one size
 module _ (P : Word → Word → Type 0) where
@@ -152,38 +174,26 @@ alike-neighbours v w a nested x k =
     subst (λ m. neighboursIn (word m (v .letter)) x k ≡ neighboursIn w x k) (sym (a .sizes))
     (neighbours-alike (w .size) (v .letter) (w .letter) (a .letters) nested x k)
 
+pub alike-landings : (v w : Word) → Alike v w → ((K : Family) → Balanced (seen K w) (w .size)) → (k : ℕ) → landingsIn v k ≡ landingsIn w k
+alike-landings v w a nested k =
+    subst (λ m. landingsIn (word m (v .letter)) k ≡ landingsIn w k) (sym (a .sizes))
+    (landings-alike (w .size) (v .letter) (w .letter) (a .letters) nested k)
+
 alike-join : (v w : Word) → Alike v w → ((K : Family) → Balanced (seen K w) (w .size))
-    → (to k p : ℕ) → p < w .size → joinIn v to k p ≡ joinIn w to k p
-alike-join v w a nested to k p l =
+    → (to k p : ℕ) → (0 < k → p < w .size) → joinIn v to k p ≡ joinIn w to k p
+alike-join v w a nested to k p some =
     subst (λ m. joinIn (word m (v .letter)) to k p ≡ joinIn w to k p) (sym (a .sizes))
-    (join-same (w .size) (v .letter) (w .letter) (a .letters) nested to k p l)
+    (join-same (w .size) (v .letter) (w .letter) (a .letters) nested to k p some)
 
 pub alike-lowest : (v w : Word) → Alike v w → (K : Family) (k : ℕ) → first (seen K v) (v .size) k ≡ first (seen K w) (w .size) k
 alike-lowest v w a K k =
     alike (λ x y. first (seen K x) (x .size) k ≡ first (seen K y) (y .size) k) v w a
     (λ n f g s. first-same (seen K (word n f)) (seen K (word n g)) n (seen-same n f g s K) k)
 
--- a number that no position has is had by none
-places-none : (w : Word) (k : ℕ) → w .size ≤ first (seen round w) (w .size) k → placesIn w Kind.point k ≡ 0
-unfolding placesIn size first
-places-none w k g =
-    count-none (λ p. eqb (number (seen round w) p) k) (w .size)
-    (λ p l. find-not (λ q. eqb (number (seen round w) q) k) (w .size) p (omega arith))
-
-join-none : (v w : Word) (to p : ℕ) → joinIn v to 0 p ≡ joinIn w to 0 p
-unfolding joinIn
-join-none v w to p = refl
-
 -- the whole search for a joining border
 pub alike-joining : (v w : Word) → Alike v w → ((K : Family) → Balanced (seen K w) (w .size)) → (to u : ℕ)
     → joinIn v to (placesIn v Kind.point u) (first (seen round v) (v .size) u)
     ≡ joinIn w to (placesIn w Kind.point u) (first (seen round w) (w .size) u)
 alike-joining v w a nested to u =
-    let p : ℕ = first (seen round w) (w .size) u in
     ap₂ (λ (k q : ℕ). joinIn v to k q) (alike-places v w a Kind.point u) (alike-lowest v w a round u)
-    ∙ elim (lt-or-ge p (w .size)) [
-      | inl l ↦ alike-join v w a nested to (placesIn w Kind.point u) p l
-      | inr g ↦
-          let z : placesIn w Kind.point u ≡ 0 = places-none w u g in
-          ap (λ (k : ℕ). joinIn v to k p) z ∙ join-none v w to p ∙ ap (λ (k : ℕ). joinIn w to k p) (sym z)
-    ]
+    ∙ alike-join v w a nested to (placesIn w Kind.point u) (first (seen round w) (w .size) u) (first-below w Kind.point u)

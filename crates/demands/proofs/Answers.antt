@@ -3,38 +3,36 @@
 -- opens-opened     == a call on bytes that open gives its own answer
 -- packed-call      == every call at every number on the packed bytes is the book's
 -- packed-first, packed-size-of, packed-neighbours, packed-joining == so are first places, sizes, neighbour counts and joining borders
+-- packed-factor    == so is an area's factor, for every pair of lists
 -- Assumes nothing.
-use mathlib.Core.Path.{_≡_, refl, sym, ap, ap₂, _∙_}
-use mathlib.Core.Logic.{_⊎_, inl, inr}
-use mathlib.Core.Bool.{Bool, true, false, _&&_}
+use mathlib.Core.Path.{_≡_, sym, ap, ap₂, _∙_}
+use mathlib.Core.Bool.{Bool, _&&_}
 use mathlib.Core.List.{List}
-use Prim.Native.Nat.{ℕ, suc, _+_, _≤_, _<_}
-use native.Mathlib.Omega.{arith}
-use lib.Dec.{eqb, ltb, leb}
-use borrow.Author.Tests.{ltb-true, leb-true}
+use Prim.Native.Nat.{ℕ}
+use lib.Dec.{ltb, leb}
+use lib.Ieee.{Float}
 use Rattle.count.specs.Below.{pick}
-use Rattle.count.proofs.Logic.{true-or-false, both-left, both-right, pick-yes, pick-no}
 use Rattle.words.specs.Brackets.{Balanced, first}
 use Rattle.words.specs.declared.family.Family.{Family}
 use Rattle.words.specs.declared.family.Family.the-variants.{Round as round}
-use Rattle.words.specs.Word.{Word, seen}
-use Rattle.words.proofs.Numbers.{openings, number-reached, first-inner}
-use Rattle.words.proofs.Same.{first-same}
-use Rattle.drawing.specs.Drawing.{Drawing, Kind, borders, ends, cells}
+use Rattle.words.specs.Word.{seen}
+use Rattle.drawing.specs.Drawing.{Drawing, Kind, cells}
 use Rattle.drawing.specs.Checks.{PassesSeven}
 use Rattle.drawing.specs.Session.{Answer, answer, refused, Call}
 use Rattle.drawing.specs.Book.{bookAnswer, bookFirst, bookSize, bookNeighbours, bookJoining, noSuch}
 use Rattle.format.specs.Bytes.{Size, sizeIn, wordIn}
 use Rattle.format.specs.Open.{openRefusal, afterRefusal, opened}
-use Rattle.format.specs.Calls.{mapAnswer, atPlace, cellsIn, isNumber, familyOfKind, firstIn, firstOf, placesIn, sizeOf, neighboursIn, neighboursOf, joinIn, joiningOf}
+use Rattle.format.specs.Calls.{mapAnswer, atPlace, cellsIn, isNumber, firstOf, placesIn, sizeOf, neighboursIn, neighboursOf, joinIn, joiningOf}
 use Rattle.format.specs.Pack.{wordOf, packedBytes}
+use Rattle.tariff.specs.Tariff.{rated}
+use Rattle.tariff.specs.Book.{bookFactor}
+use Rattle.tariff.specs.Maps.{factorOf}
 use Rattle.agreement.specs.Toured.{Toured}
 use Rattle.agreement.proofs.Passed.{passes-toured, packed-opens, packed-size}
 use Rattle.agreement.proofs.Counts.{cells-in, cells-agree}
 use Rattle.agreement.proofs.Nesting.{word-balanced}
-use Rattle.agreement.proofs.Steps.{cellWord}
-use Rattle.agreement.proofs.Book.{isNumbered, book-call, book-first, book-size, book-neighbours, book-joining}
-use Rattle.demands.proofs.Alike.{Alike, alike-call, alike-first, alike-places, alike-neighbours, alike-joining}
+use Rattle.agreement.proofs.Book.{isNumbered, numbers-agree, book-call, book-first, book-size, book-neighbours, book-landings, book-joining}
+use Rattle.demands.proofs.Alike.{alike-call, alike-first, alike-places, alike-neighbours, alike-landings, alike-joining}
 use Rattle.demands.proofs.Faithful.{packed-alike}
 
 pub opens-opened : {A : Type 0} (s : List ℕ) (a : Answer A) → openRefusal s ≡ 0 → opened s a ≡ a
@@ -97,6 +95,14 @@ module _ (D : Drawing) (seven : PassesSeven D) where
       (alike-neighbours (wordIn (packedBytes D)) (wordOf D) (packed-alike D seven) (nested-word D seven) (cellsIn (sizeIn (packedBytes D)) Kind.area) k
       ∙ ap (λ v. neighboursIn (wordOf D) v k) (packed-cells Kind.area))
       ∙ sym (book-neighbours toured k)
+
+  pub packed-factor : (k : ℕ) (kinds : List ℕ) (values : List Float) → factorOf (packedBytes D) k kinds values ≡ bookFactor D k kinds values
+  unfolding factorOf bookFactor
+  packed-factor k kinds values =
+      opens-opened (packedBytes D) _ (packed-opens D seven)
+      ∙ ap₂ (λ (t : Bool) (a : Answer Float). pick t a (refused 15)) (number-test Kind.area k ∙ sym (numbers-agree toured Kind.area k))
+      (ap₂ (λ (v : ℕ) (js : List ℕ). rated v kinds values k js) (packed-cells Kind.area)
+      (alike-landings (wordIn (packedBytes D)) (wordOf D) (packed-alike D seven) (nested-word D seven) k ∙ sym (book-landings toured k)))
 
   pub packed-joining : (u v : ℕ) → joiningOf (packedBytes D) u v ≡ bookJoining D u v
   unfolding joiningOf

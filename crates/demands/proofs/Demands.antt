@@ -7,18 +7,20 @@
 --                   byte string that opens unpacks to a drawing that packs to the same bytes, and unpacking what packing wrote
 --                   gives the drawing renumbered. Its parts are demand-2-pack and demand-2-round-trip.
 -- demand-3       == whatever packing answers agrees with the drawing's book: every session, every answer about point and area
---                   numbers, one number for one point (area), where turns end, how many points and areas there are and which
---                   numbers they have, and the printed schedule
+--                   numbers, every factor of an area, one number for one point (area), where turns end, how many points and
+--                   areas there are and which numbers they have, and the printed schedule
 -- every-map      == the same of every byte string that opens, with the book of its unpacked drawing
 -- unpacked-agrees == the same of every byte string that opens and whatever unpacking it answers
 -- packed-agrees  == the same of the bytes of a drawing that passes 1 to 7. Its parts are demand-3-sessions, demand-3-numbers,
---                   same-point, same-area, turn-zero, areas-count, has-number and schedule-book.
+--                   demand-3-factors, same-point, same-area, turn-zero, areas-count, has-number and schedule-book.
+-- factor-agrees  == whatever packing answers gives every area the book's factor, for every pair of lists: demand 3's part of 02, 4/14
 -- Assumes nothing.
 use mathlib.Core.Path.{_≡_, refl, sym, ap, _∙_, subst}
 use mathlib.Core.Bool.{Bool, true, false, _&&_}
 use mathlib.Core.List.{List}
-use Prim.Native.Nat.{ℕ, _-_, _*_, _≤_, _<_}
+use Prim.Native.Nat.{ℕ, _*_, _≤_, _<_}
 use native.Mathlib.Omega.{arith}
+use lib.Ieee.{Float}
 use lib.ListN.{length, take, drop}
 use lib.Seq.{take-at}
 use Rattle.count.specs.Below.{pick}
@@ -46,6 +48,8 @@ use Rattle.format.proofs.Decode.{passes-nested, opens-encode}
 use Rattle.format.proofs.Encode.{fits-lengths}
 use Rattle.format.proofs.Parts.{map-length}
 use Rattle.format.proofs.Longest.{map-length-most}
+use Rattle.tariff.specs.Book.{bookFactor}
+use Rattle.tariff.specs.Maps.{factorOf}
 use Rattle.tours.proofs.Theorems.{alternate-places}
 use Rattle.agreement.proofs.Passed.{passes-toured, passes-fits, packed-opens, packed-map, packed-size}
 use Rattle.agreement.proofs.Book.{session-same}
@@ -53,9 +57,9 @@ use Rattle.roundtrip.proofs.Passes.{drawing-passes}
 use Rattle.roundtrip.proofs.Words.{drawing-bytes}
 use Rattle.roundtrip.proofs.Renumbered.{unpacked-renumbered}
 use Rattle.demands.specs.Statements.{turanBytes, Exact, leftIn, RoundTrip, RoundTrips, Demand2}
-use Rattle.demands.specs.Statements.{Sessions, Numbers, SameCell, TurnZero, CellCounts, HasNumber, Agrees}
+use Rattle.demands.specs.Statements.{Sessions, Numbers, Factors, SameCell, TurnZero, CellCounts, HasNumber, Agrees}
 use Rattle.demands.proofs.Faithful.{passes-faithful, packed-alike}
-use Rattle.demands.proofs.Answers.{opens-opened, packed-call, packed-first, packed-size-of, packed-neighbours, packed-joining}
+use Rattle.demands.proofs.Answers.{opens-opened, packed-call, packed-first, packed-size-of, packed-neighbours, packed-factor, packed-joining}
 use Rattle.demands.proofs.AlikeDrawings.{alike-drawing}
 use Rattle.demands.proofs.Cells.{same-number, turn-zero-in, cell-counts, known-numbers}
 use Rattle.demands.proofs.Turan.{turan-packed}
@@ -237,6 +241,9 @@ module _ (D : Drawing) (seven : PassesSeven D) where
         joining = packed-joining D seven;
       }
 
+  pub demand-3-factors : Factors D (packedBytes D)
+  demand-3-factors = record { same = packed-factor D seven }
+
   pub same-point : SameCell D (packedBytes D) Kind.point pointOf
   unfolding pointOf
   same-point = record { same = same-number D seven Kind.point }
@@ -262,6 +269,7 @@ module _ (D : Drawing) (seven : PassesSeven D) where
         size = packed-open-of;
         sessions = demand-3-sessions;
         numbers = demand-3-numbers;
+        factors = demand-3-factors;
         points = same-point;
         areas = same-area;
         zeros = packed-zero;
@@ -273,6 +281,10 @@ module _ (D : Drawing) (seven : PassesSeven D) where
 pub demand-3 : (D : Drawing) (work out : ℕ) (s : List ℕ) → packOf D work out ≡ answer s → Agrees D s
 demand-3 D work out s e =
     let p = answered D work out s e in subst (Agrees D) (p .1) (packed-agrees D (p .0))
+
+pub factor-agrees : (D : Drawing) (work out : ℕ) (s : List ℕ) → packOf D work out ≡ answer s
+    → (k : ℕ) (kinds : List ℕ) (values : List Float) → factorOf s k kinds values ≡ bookFactor D k kinds values
+factor-agrees D work out s e = demand-3 D work out s e .factors .same
 
 pub every-map : (s : List ℕ) → Opens s → Agrees (drawingOf (wordIn s)) s
 every-map s opens = subst (Agrees (drawingOf (wordIn s))) (unpacked-bytes s opens) (packed-agrees (drawingOf (wordIn s)) (unpacked-passes s opens))

@@ -9,6 +9,7 @@
 -- Demand2             == the whole of demand 2
 -- Sessions D s        == demand 3: every session on the map s is the book's session
 -- Numbers D s         == demand 3: first places, degrees, sides, neighbour counts and joining borders on s are the book's
+-- Factors D s         == demand 3: the factor of every area of s is the book's, whatever the two lists lent are
 -- SameCell D s c ask  == two places of the map s get one number from `ask` exactly if they are of one point (area)
 -- LastPlace w p, FirstPlace w p == position p is the last, the first of its point, in document 01's words
 -- TurnZero s p        == where a turn and a turn back answer 0
@@ -21,6 +22,7 @@ use mathlib.Core.Logic.{_≢_, _⊎_, _↔_}
 use mathlib.Core.Bool.{Bool, true, false, not}
 use mathlib.Core.List.{List, [], _++_}
 use Prim.Native.Nat.{ℕ, suc, pred, _+_, _*_, _≤_, _<_}
+use lib.Ieee.{Float}
 use lib.ListN.{length, take}
 use Rattle.count.specs.Below.{table, gather, total}
 use Rattle.orbits.specs.Cycles.{SameCycle}
@@ -37,6 +39,8 @@ use Rattle.format.specs.Bytes.{Size, sizeIn, wordIn, le16, bytesOf, closingBit,
 use Rattle.format.specs.Open.{Opens, openOf}
 use Rattle.format.specs.Calls.{mapSession, turnOf, turnBackOf, pointOf, areaOf, firstOf, sizeOf, neighboursOf, joiningOf}
 use Rattle.format.specs.Pack.{Room, sizeFor, packedBytes, packOf, unpackOf}
+use Rattle.tariff.specs.Book.{bookFactor}
+use Rattle.tariff.specs.Maps.{factorOf}
 use Rattle.text.specs.Schedule.{bookRows, scheduleText, scheduleOf}
 
 abbrev pub markedAt : Drawing → ℕ → Bool
@@ -111,6 +115,11 @@ pub record Numbers (D : Drawing) (s : List ℕ) : Type 0 where
   pub neighbours : (k : ℕ) → neighboursOf s k ≡ bookNeighbours D k
   pub joining : (u v : ℕ) → joiningOf s u v ≡ bookJoining D u v
 
+-- Demand 3, of document 02, 4/14: "An area's factor", for every number and every pair of lists that a caller may lend, refusals
+-- included
+pub record Factors (D : Drawing) (s : List ℕ) : Type 0 where
+  pub same : (k : ℕ) (kinds : List ℕ) (values : List Float) → factorOf s k kinds values ≡ bookFactor D k kinds values
+
 -- 01: "A point is one cycle of that list"; "Ends on one such cycle border one area." Two places get one number exactly if
 -- their ends turn about one point, lie on one area walk.
 pub record SameCell (D : Drawing) (s : List ℕ) (c : Kind) (ask : List ℕ → ℕ → Answer ℕ) : Type 0 where
@@ -145,13 +154,15 @@ pub record HasNumber (D : Drawing) (c : Kind) : Type 0 where
   pub alone : borders D ≡ 0 → (k : ℕ) → (hasNumber D c k ≡ true) ↔ (k ≡ 1)
 
 -- Demand 3, whole. 01: "Demand 3 is one statement about the whole list"; it "covers counts and searches". The map s is a
--- byte string that opens, with the drawing's m and n. Beside the answers stands what document 01 says of the numbers and of the
--- zeros among them, and the printed schedule of document 02, 1/14: it is made of the book's numbers.
+-- byte string that opens, with the drawing's m and n. With the answers of document 01 go the factors of document 02, 4/14. Beside
+-- them stands what document 01 says of the numbers and of the zeros among them, and the printed schedule of document 02, 1/14: it is
+-- made of the book's numbers.
 pub record Agrees (D : Drawing) (s : List ℕ) : Type 0 where
   pub opens : Opens s
   pub size : openOf s ≡ answer (sizeFor D)
   pub sessions : Sessions D s
   pub numbers : Numbers D s
+  pub factors : Factors D s
   pub points : SameCell D s Kind.point pointOf
   pub areas : SameCell D s Kind.area areaOf
   pub zeros : (p : ℕ) → p < ends D → TurnZero s p

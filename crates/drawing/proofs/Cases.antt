@@ -1,4 +1,5 @@
--- Drawings on one point by computation: the tour's length alone does not show a tree, and which crossing is the first. Assumes nothing.
+-- Drawings on one point by computation: the tour's length alone does not show a tree, which crossing is the first, and in which
+-- order the areas across the sides are met. Assumes nothing.
 use mathlib.Core.Path.{_≡_, refl}
 use mathlib.Core.Bool.{true, false}
 use mathlib.Core.List.{List, [], _∷_}
@@ -6,7 +7,7 @@ use Prim.Native.Nat.{ℕ}
 use Rattle.drawing.specs.Drawing.{Drawing, positionOf}
 use Rattle.drawing.specs.Checks.{joined, fewMarks, crosses, firstCrossing}
 use Rattle.drawing.specs.Session.{answer, Call}
-use Rattle.drawing.specs.Book.{bookSession}
+use Rattle.drawing.specs.Book.{bookSession, bookLandings}
 
 abbrev interlaced : List ℕ → Drawing
 interlaced marks = record { turning = 2 ∷ 3 ∷ 1 ∷ 0 ∷ []; marks = marks; start = 0 }
@@ -39,11 +40,13 @@ pub record Cases : Type 0 where
   -- a cross goes there, and the next one comes back; asking for the area leaves the place
   pub session-moves : bookSession nested 1 (Call.cross ∷ Call.area ∷ Call.cross ∷ [])
       ≡ record { answers = answer 4 ∷ answer 2 ∷ answer 1 ∷ []; place = 1 }
+  -- area 2 lies between the two loops: from its first place on, the inner one is crossed first
+  pub in-walk-order : bookLandings nested 2 ≡ 3 ∷ 1 ∷ []
   -- an unmarked border joins nothing
   pub not-joined : joined apart ≡ false
 
 pub cases : Cases
-unfolding positionOf fewMarks crosses firstCrossing bookSession joined
+unfolding positionOf fewMarks crosses firstCrossing bookSession bookLandings joined
 cases =
     record {
       tours-all = refl;
@@ -56,5 +59,6 @@ cases =
       by-second-a = refl;
       smaller-first = refl;
       session-moves = refl;
+      in-walk-order = refl;
       not-joined = refl;
     }

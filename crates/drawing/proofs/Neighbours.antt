@@ -5,11 +5,13 @@
 -- neighbours-none == none exactly if nothing but the area itself is across its sides
 -- neighbours-le, neighbours-most == no more neighbours than areas, and no more than sides
 -- neighbours-same == accounts that are one another's, renamed, count the same neighbours
+-- landings-same   == and the areas across their sides are the same, in walk order
 -- Assumes nothing.
-use mathlib.Core.Path.{_≡_, refl, sym, ap, _∙_}
+use mathlib.Core.Path.{_≡_, refl, sym, ap, ap₂, _∙_}
 use mathlib.Core.Logic.{_↔_, inl, inr}
 use mathlib.Core.Bool.{Bool, true, not, _&&_}
-use Prim.Native.Nat.{ℕ, suc, pred, _≤_, _<_}
+use mathlib.Core.List.{List, _∷_}
+use Prim.Native.Nat.{ℕ, zero, suc, pred, _≤_, _<_}
 use native.Mathlib.Omega.{arith}
 use lib.Dec.{eqb}
 use borrow.Author.Tests.{eq-eqb, eqb-true, ne-eqb}
@@ -17,7 +19,7 @@ use Rattle.count.specs.Below.{Decides, count, find}
 use Rattle.count.proofs.Logic.{true-not-false, same-or-not, both, both-left, both-right, not-both, bool-same}
 use Rattle.count.proofs.Decides.{decides-eq, decides-both, decides-any, decides-as}
 use Rattle.count.proofs.Below.{find-has, find-at-most, count-le, count-same, count-none, count-before, count-injection}
-use Rattle.drawing.specs.Neighbours.{Across, isAcross, neighbours}
+use Rattle.drawing.specs.Neighbours.{Across, isAcross, neighbours, landings}
 
 module _ (area cross : ℕ → ℕ) (n : ℕ) where
   -- whether area j is across the side p of area k
@@ -124,3 +126,16 @@ module _ (area cross area′ cross′ at to : ℕ → ℕ) (n : ℕ)
   neighbours-same v k =
       count-same (counts area cross n v k) (counts area′ cross′ n v k) v
       (λ i l. ap (λ t. not (eqb (suc i) k) && t) (across-same k (suc i)))
+
+-- the side at p of one account is the side `at p` of the other, and what follows it on the walk too; of no sides any p is the first
+module _ (area cross along area′ cross′ along′ at : ℕ → ℕ) (n : ℕ)
+    (over : (p : ℕ) → p < n → area (cross (at p)) ≡ area′ (cross′ p))
+    (next : (p : ℕ) → p < n → along (at p) ≡ at (along′ p))
+    (next-below : (p : ℕ) → p < n → along′ p < n) where
+  pub landings-same : (d p : ℕ) → (0 < d → p < n) → landings area cross along d (at p) ≡ landings area′ cross′ along′ d p
+  unfolding landings
+  landings-same zero p some = refl
+  landings-same (suc d) p some =
+      let l : p < n = some (omega arith) in
+      ap₂ (λ (j : ℕ) (js : List ℕ). j ∷ js) (over p l)
+      (ap (landings area cross along d) (next p l) ∙ landings-same d (along′ p) (λ s. next-below p l))
