@@ -22,7 +22,10 @@ fn more(running: Running, x: f64) -> Running
     requires { ⌜ running .count < 4096 ⌝ }
     ensures { λ r. ⌜ r ≡ plus running x ⌝ }
 {
-    Running { sum: running.sum + x, count: running.count + 1 }
+    Running {
+        sum: running.sum + x,
+        count: running.count + 1,
+    }
 }
 
 // "A held one is raised to its floor or lowered to its ceiling."

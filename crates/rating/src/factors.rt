@@ -1,14 +1,14 @@
 // The factor of an area: the checks in order, then its own, held, or the mean across its sides.
 use crate::answers::FactorAnswer;
-use pricing::factor_in;
-use pricing::lists_fit;
-use pricing::hold;
-use pricing::mean_of;
 use crate::sides::sum_across;
 use layout::areas;
 use opening::Area;
 use opening::Cell;
 use opening::cell_refusal;
+use pricing::factor_in;
+use pricing::hold;
+use pricing::lists_fit;
+use pricing::mean_of;
 use tariff::Factor;
 ghost use mathlib.Core.Path.{_≡_};
 ghost use Rattle.drawing.specs.Drawing.{Kind};

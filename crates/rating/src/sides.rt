@@ -1,9 +1,9 @@
 // Adding up the known factors across the sides of an area, in one loop along its walk.
-use pricing::factor_in;
-use pricing::add;
 use layout::bits_a;
 use opening::Area;
 use opening::Cell;
+use pricing::add;
+use pricing::factor_in;
 use surveying::area_in;
 use surveying::crossing_in;
 use surveying::survey;
@@ -50,7 +50,16 @@ pub fn sum_across(map: &[u8], area: Area, kinds: &[u8], values: &[f64]) -> Runni
     }
     let none = [0u16; 0];
     let next = first_at(map, Cell::Area(area));
-    let walked = sum_from(map, &none, &none, kinds, values, n / WALK + LEAST, next, running);
+    let walked = sum_from(
+        map,
+        &none,
+        &none,
+        kinds,
+        values,
+        n / WALK + LEAST,
+        next,
+        running,
+    );
     if walked.over {
         return walked.running;
     }
@@ -58,7 +67,14 @@ pub fn sum_across(map: &[u8], area: Area, kinds: &[u8], values: &[f64]) -> Runni
 }
 
 // The rest, looked up in lists of the whole map of n places.
-fn sum_surveyed(map: &[u8], kinds: &[u8], values: &[f64], n: usize, next: usize, running: Running) -> Running
+fn sum_surveyed(
+    map: &[u8],
+    kinds: &[u8],
+    values: &[f64],
+    n: usize,
+    next: usize,
+    running: Running,
+) -> Running
     requires { ⌜ Partway (now map) (now kinds) (now values) (areaAt (now map) next) next running × (n ≡ bitsA (sizeIn (now map))) ⌝ }
     ensures { λ r. ⌜ r ≡ sumAcross (now (kinds .entry)) (now (values .entry)) (landingsIn (wordIn (now (map .entry))) (areaAt (now (map .entry)) next)) ⌝ }
 {
@@ -72,7 +88,16 @@ fn sum_surveyed(map: &[u8], kinds: &[u8], values: &[f64], n: usize, next: usize,
 
 // Along the area's walk, from the side at position `next`: each side leads across to an area, whose factor is added if it is
 // known. The walk leads to higher positions until the area's last. At most `most` sides are crossed.
-fn sum_from(map: &[u8], mates: &[u16], areas: &[u16], kinds: &[u8], values: &[f64], most: usize, next: usize, running: Running) -> Walked
+fn sum_from(
+    map: &[u8],
+    mates: &[u16],
+    areas: &[u16],
+    kinds: &[u8],
+    values: &[f64],
+    most: usize,
+    next: usize,
+    running: Running,
+) -> Walked
     requires { ⌜ Partway (now map) (now kinds) (now values) (areaAt (now map) next) next running × Mates (now map) (now mates) × Numbers square (now map) (now areas) ⌝ }
     ensures { λ r. ⌜ Walks (now (map .entry)) (now (kinds .entry)) (now (values .entry)) (areaAt (now (map .entry)) next) most r ⌝ }
 {
@@ -93,5 +118,9 @@ fn sum_from(map: &[u8], mates: &[u16], areas: &[u16], kinds: &[u8], values: &[f6
         p = r;
         left -= 1;
     };
-    Walked { over: over, next: p, running: sum }
+    Walked {
+        over: over,
+        next: p,
+        running: sum,
+    }
 }

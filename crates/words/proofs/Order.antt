@@ -151,13 +151,13 @@ module _ (b : ℕ → Bracket) where
                 iter-next (step b n) i f ∙ walk-returns n bal p (R .below) r .0
                 ∙ number-inner b p f (R .same ∙ sym e) ∙ first
           ]
+
       pub walk-order : ((i : ℕ) → i < size b n k → iter (step b n) i f ≡ nth (on k) i n) × (iter (step b n) (size b n k) f ≡ f)
-      walk-order =
-          (
-            λ i h.
-                let R : Reached i (iter (step b n) i f) = reached i h in
-                sym (nth-of-count (on k) (iter (step b n) i f) n (R .below) (eq-eqb (number b (iter (step b n) i f)) k (R .same)))
-                ∙ ap (λ x. nth (on k) x n) (R .before),
-            let one : size b n k ≡ (size b n k - 1) + 1 = omega (arith, before-end f l e) in
+      walk-order = (
+        λ i h.
+            let R : Reached i (iter (step b n) i f) = reached i h in
+            sym (nth-of-count (on k) (iter (step b n) i f) n (R .below) (eq-eqb (number b (iter (step b n) i f)) k (R .same)))
+            ∙ ap (λ x. nth (on k) x n) (R .before),
+        let one : size b n k ≡ (size b n k - 1) + 1 = omega (arith, before-end f l e) in
             ap (λ d. iter (step b n) d f) one ∙ comes-back (size b n k - 1) one,
-          )
+      )

@@ -1,7 +1,6 @@
 -- `pricing::entries::lists_fit` meets its contract. Assumes nothing.
 use Prim.Native.Nat.{_-_}
 use borrow.Author.Needs.{needs}
-use borrow.Author.Needs.{needs}
 use Rattle.pricing.proofs.Laws.{Fitting, lists-bytes, lists-numbers, fitting-start, fitting-entry, fitting-not, fitting-on, fitting-end}
 use Rattle.pricing.proofs.entries.lists_fit.Statement.{statement}
 use Rattle.pricing.proofs.entries.lists_fit.Tie as tie
@@ -34,7 +33,7 @@ loop-less : tie.Need-loop-less Inv-loop μ-loop
 loop-less c = search needs
 
 loop-again : tie.Need-loop-again Inv-loop μ-loop
-loop-again c = search fitting-on
+loop-again c = fitting-on _ _ _ _ (c .before .before .before .loop .inv) (c .before .before .if3 .left) _ (c .before .entry-fits .ensures) (c .if4 .left)
 
 returns-3 : tie.Need-returns-3 Inv-loop μ-loop
 returns-3 c = search fitting-end

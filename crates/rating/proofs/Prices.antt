@@ -1,0 +1,1 @@
+-- What the call answers, by the checks that it has made.
