@@ -23,7 +23,7 @@ use Rattle.opening.specs.Checks.{orNext, afterOpening, placeRefusal, cel
 use Rattle.opening.proofs.Refused.{inRange, range-has}
 
 -- ---- any call: o is what opening answers, t the call's own test, n its number, a its answer
-refused-is : (o : ℕ) (t : Bool) (n k : ℕ) (a : Answer ℕ) → k ≡ orNext o (unless t n 0) → (k ≡ 0 → ⊥)
+refused-is : {A : Type 0} (o : ℕ) (t : Bool) (n k : ℕ) (a : Answer A) → k ≡ orNext o (unless t n 0) → (k ≡ 0 → ⊥)
     → refused k ≡ afterRefusal o (pick t a (refused n))
 refused-is zero true n k a e m = absurd (m e)
 refused-is zero false n k a e m = ap refused e
@@ -34,7 +34,7 @@ passed-is zero true n k e z = (refl, refl)
 passed-is zero false n k e z = absurd (omega arith)
 passed-is (suc o) t n k e z = absurd (omega arith)
 
-answered-is : (o : ℕ) (t : Bool) (a z : Answer ℕ) → (o ≡ 0) × (t ≡ true) → a ≡ afterRefusal o (pick t a z)
+answered-is : {A : Type 0} (o : ℕ) (t : Bool) (a z : Answer A) → (o ≡ 0) × (t ≡ true) → a ≡ afterRefusal o (pick t a z)
 answered-is o t a z h = rw (h .0, h .1)
 
 -- ---- places
@@ -80,10 +80,10 @@ module _ (s : List ℕ) (c : Kind) (k o : ℕ) (e : o ≡ cellRefusal s c k) whe
       let r = range-has k (cellsIn (sizeIn s) c) (h .1) in
       (h .0, r .0, r .1)
 
-  pub cell-declines : (a : Answer ℕ) → (o ≡ 0 → ⊥) → refused o ≡ opened s (pick (isNumber (sizeIn s) c k) a (refused (noSuch c)))
+  pub cell-declines : {A : Type 0} (a : Answer A) → (o ≡ 0 → ⊥) → refused o ≡ opened s (pick (isNumber (sizeIn s) c k) a (refused (noSuch c)))
   unfolding opened cellRefusal afterOpening
   cell-declines a m = refused-is (openRefusal s) (isNumber (sizeIn s) c k) (noSuch c) o a e m
 
-  pub cell-answers : (a : Answer ℕ) → o ≡ 0 → a ≡ opened s (pick (isNumber (sizeIn s) c k) a (refused (noSuch c)))
+  pub cell-answers : {A : Type 0} (a : Answer A) → o ≡ 0 → a ≡ opened s (pick (isNumber (sizeIn s) c k) a (refused (noSuch c)))
   unfolding opened
   cell-answers a z = answered-is (openRefusal s) (isNumber (sizeIn s) c k) a (refused (noSuch c)) (passed-cell z)

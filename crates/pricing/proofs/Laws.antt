@@ -97,7 +97,7 @@ last-holds : (a : Bool) → a && true ≡ a
 last-holds false = refl
 last-holds true = refl
 
-not-is : (a b : Bool) → not a ≡ b → a ≡ not b
+pub not-is : (a b : Bool) → not a ≡ b → a ≡ not b
 not-is true b e = let z : false ≡ b = e in ap not z
 not-is false b e = let z : true ≡ b = e in ap not z
 
