@@ -25,8 +25,8 @@ module _ {A : Type 0} where
   pub status-same : (r : ℕ) (a b : Answer A) → r ≡ numberOf a → a ≡ b → r ≡ numberOf b
   status-same r a b h e = h ∙ ap numberOf e
 
-pub cell-same : (x old : ℕ) (a b : Answer ℕ) → x ≡ cellAfter a old → a ≡ b → x ≡ cellAfter b old
-cell-same x old a b h e = h ∙ ap (λ y. cellAfter y old) e
+  pub cell-same : (x old : A) (a b : Answer A) → x ≡ cellAfter a old → a ≡ b → x ≡ cellAfter b old
+  cell-same x old a b h e = h ∙ ap (λ y. cellAfter y old) e
 
 -- ---- the value of an answer, where the answer fits
 pub borders-value : (a : Opened) (m n : ℕ) → a ≡ Opened.Size m n → valueOf (bordersGiven (openedMeans a)) < 65536 → m < 65536

@@ -1,7 +1,7 @@
 -- A status of 0 is success: no call declines with the number 0.
 --
 -- own-tells  == so of a call's own answer after its checks
--- move-tells, first-tells, size-tells, joining-tells, open-tells, session-tells, pack-tells, unpack-tells == so of every call
+-- move-tells, first-tells, size-tells, joining-tells, factor-tells, open-tells, session-tells, pack-tells, unpack-tells == so of every call
 -- Assumes nothing.
 use mathlib.Core.Path.{_≡_, refl}
 use mathlib.Core.Bool.{Bool, true, false, _&&_}
@@ -9,6 +9,7 @@ use mathlib.Core.List.{List, []}
 use Prim.Native.Nat.{ℕ, zero, suc, pred, _*_}
 use native.Mathlib.Omega.{arith}
 use lib.Dec.{ltb, leb}
+use lib.Ieee.{Float}
 use lib.ListN.{length}
 use Rattle.count.specs.Below.{pick}
 use Rattle.words.specs.Brackets.{first}
@@ -19,7 +20,11 @@ use Rattle.drawing.specs.Session.{Answer, answer, refusedWith, refused, numberO
 use Rattle.drawing.specs.Book.{noSuch}
 use Rattle.format.specs.Bytes.{sizeIn, wordIn}
 use Rattle.format.specs.Open.{openRefusal, afterRefusalWith, afterRefusal, opened, openOf}
-use Rattle.format.specs.Calls.{moveIn, atPlace, mapAnswer, mapSession, isNumber, firstIn, firstOf, placesIn, sizeOf, joinIn, joiningOf}
+use Rattle.format.specs.Calls.{moveIn, atPlace, mapAnswer, mapSession, cellsIn, isNumber, firstIn, firstOf, placesIn, sizeOf, landingsIn, joinIn, joiningOf}
+use Rattle.tariff.specs.declared.factor.Factor.{Factor}
+use Rattle.tariff.specs.declared.factor.Running.{Running}
+use Rattle.tariff.specs.Tariff.{factorAt, tariffFits, hasFactor, worth, sumAcross, rated}
+use Rattle.tariff.specs.Maps.{factorOf}
 use Rattle.running.specs.Codes.{callsOf, areCalls, noCall}
 use Rattle.running.specs.Runs.{runOf, ranOf}
 use Rattle.format.specs.Pack.{packedBytes, packRefusal, packCarries, packOf, drawingOf, unpackOf}
@@ -41,10 +46,10 @@ own-tells : {A : Type 0} (t : Bool) (x : A) (k : ℕ) → (k ≡ 0 → ⊥) → 
 own-tells true x k m = answer-tells x
 own-tells false x k m = refused-tells k [] m
 
--- where lists are too short, 2
-run-tells : {A : Type 0} (t : Bool) (a : Answer A) → Tells a → Tells (pick t a (refused 2))
-run-tells true a h = h
-run-tells false a h = refused-tells 2 [] (λ e. omega arith)
+-- a check k of the call's own, before the rest
+check-tells : {A : Type 0} (t : Bool) (a : Answer A) (k : ℕ) → (k ≡ 0 → ⊥) → Tells a → Tells (pick t a (refused k))
+check-tells true a k m h = h
+check-tells false a k m h = refused-tells k [] m
 
 no-such-some : (c : Kind) → noSuch c ≡ 0 → ⊥
 no-such-some Kind.point e = omega arith
@@ -81,12 +86,24 @@ module _ (s : List ℕ) where
       let x : ℕ = joinIn (wordIn s) v (placesIn (wordIn s) Kind.point u) (first (seen round (wordIn s)) (wordIn s .size) u) in
       opened-tells (openRefusal s) [] (pick t (answer x) (refused 14)) (own-tells t x 14 (λ e. omega arith))
 
+  pub factor-tells : (k : ℕ) (kinds : List ℕ) (values : List Float) → Tells (factorOf s k kinds values)
+  unfolding factorOf opened rated
+  factor-tells k kinds values =
+      let v : ℕ = cellsIn (sizeIn s) Kind.area in
+      let js : List ℕ = landingsIn (wordIn s) k in
+      let f : Factor = factorAt kinds values k in
+      let r : Running = sumAcross kinds values js in
+      opened-tells (openRefusal s) [] (pick (isNumber (sizeIn s) Kind.area k) (rated v kinds values k js) (refused 15))
+      (check-tells (isNumber (sizeIn s) Kind.area k) (rated v kinds values k js) 15 (λ e. omega arith)
+      (check-tells (tariffFits v kinds values) (pick (hasFactor f r) (answer (worth f r)) (refused 19)) 18 (λ e. omega arith)
+      (own-tells (hasFactor f r) (worth f r) 19 (λ e. omega arith))))
+
   pub session-tells : (i : ℕ) (ks : List ℕ) (k l : ℕ) → Tells (ranOf s i ks k l)
   unfolding ranOf runOf opened
   session-tells i ks k l =
       let o : Outcome = mapSession s i (callsOf ks) in
       opened-tells (openRefusal s) [] (runOf ks k l o)
-      (run-tells (leb (length ks) k && leb (length ks) l) (pick (areCalls ks) (answer o) (refused noCall))
+      (check-tells (leb (length ks) k && leb (length ks) l) (pick (areCalls ks) (answer o) (refused noCall)) 2 (λ e. omega arith)
       (own-tells (areCalls ks) o noCall (λ e. omega arith)))
 
   pub unpack-tells : (t k : ℕ) → Tells (unpackOf s t k)

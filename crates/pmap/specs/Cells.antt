@@ -10,7 +10,7 @@ use Rattle.drawing.specs.Session.{Answer, answer, refusedWith, numberOf}
 use Rattle.format.specs.Bytes.{Size}
 
 -- 01: "Output memory is unchanged."
-unfoldable pub cellAfter : Answer ℕ → ℕ → ℕ
+unfoldable pub cellAfter : {A : Type 0} → Answer A → A → A
 cellAfter (answer x) old = x
 cellAfter (refusedWith k xs) old = old
 

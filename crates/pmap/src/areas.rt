@@ -1,11 +1,13 @@
 // Calls about areas.
 use crate::cells::give_count;
+use crate::cells::give_factor;
 use crate::cells::give_place;
 use opening::Area;
 ghost use mathlib.Core.Path.{_≡_};
 ghost use Rattle.drawing.specs.Drawing.{Kind};
 ghost use Rattle.drawing.specs.Session.{numberOf};
 ghost use Rattle.format.specs.Calls.{firstOf, sizeOf, neighboursOf};
+ghost use Rattle.tariff.specs.Maps.{factorOf};
 ghost use Rattle.pmap.specs.Cells.{cellAfter};
 
 // The area's first place, or 0 if m = 0.
@@ -33,4 +35,19 @@ pub extern "C" fn pmap_neighbours(map: &[u8], area: usize, out: &mut u16) -> u8
     ensures { λ _. ⌜ now (out .exit) ≡ cellAfter (neighboursOf (now (map .entry)) area) (now (out .entry)) ⌝ }
 {
     give_count(map::neighbours(map, Area(area)), out)
+}
+
+// The area's factor, by the two lists.
+#[no_mangle]
+pub extern "C" fn pmap_factor(
+    map: &[u8],
+    area: usize,
+    kinds: &[u8],
+    values: &[f64],
+    out: &mut f64,
+) -> u8
+    ensures { λ r. ⌜ r ≡ numberOf (factorOf (now (map .entry)) area (now (kinds .entry)) (now (values .entry))) ⌝ }
+    ensures { λ _. ⌜ now (out .exit) ≡ cellAfter (factorOf (now (map .entry)) area (now (kinds .entry)) (now (values .entry))) (now (out .entry)) ⌝ }
+{
+    give_factor(rating::factor(map, Area(area), kinds, values), out)
 }

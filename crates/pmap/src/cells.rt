@@ -3,10 +3,12 @@ use opening::AreaAnswer;
 use opening::Count;
 use opening::PlaceAnswer;
 use opening::PointAnswer;
+use rating::FactorAnswer;
 ghost use mathlib.Core.Path.{_≡_};
 ghost use Prim.Native.Nat.{_<_};
 ghost use Rattle.drawing.specs.Session.{numberOf, valueOf};
 ghost use Rattle.opening.specs.Answers.{placeMeans, pointMeans, areaMeans, countMeans};
+ghost use Rattle.rating.specs.Answers.{factorMeans};
 ghost use Rattle.pmap.specs.Cells.{cellAfter};
 
 pub fn give_place(a: PlaceAnswer, out: &mut u16) -> u8
@@ -65,5 +67,18 @@ pub fn give_count(a: Count, out: &mut u16) -> u8
             0
         }
         Count::Declined(k) => k,
+    }
+}
+
+pub fn give_factor(a: FactorAnswer, out: &mut f64) -> u8
+    ensures { λ r. ⌜ r ≡ numberOf (factorMeans a) ⌝ }
+    ensures { λ _. ⌜ now (out .exit) ≡ cellAfter (factorMeans a) (now (out .entry)) ⌝ }
+{
+    match a {
+        FactorAnswer::Is(x) => {
+            *out = x;
+            0
+        }
+        FactorAnswer::Declined(k) => k,
     }
 }

@@ -5,6 +5,7 @@
 //     pmap_point, pmap_area                                  the point and the area of a place
 //     pmap_point_first, pmap_degree                          of a point
 //     pmap_area_first, pmap_sides, pmap_neighbours           of an area
+//     pmap_factor                                            of an area, by its insurer's lists
 //     pmap_joining                                           the joining border of two points
 //     pmap_session                                           a list of calls in one: moves, points and areas
 //     pmap_pack, pmap_unpack                                 from a drawing to a map, and back
@@ -15,9 +16,9 @@
 // that 7 carries. Numbers come in as usize, so that nothing is cut: place 65,537 is declined, not taken for 1. No
 // function asks anything of its caller.
 //
-// The functions only pass on what the crates `opening`, `map`, `running`, `packing` and `unpacking` answer. The
-// definitions that the contracts cite are those of the crate `format`, with `running`, `packing` and `unpacking` for the
-// lists that are lent to them; specs/Cells.antt says what a cell holds after a call, specs/Desk.antt what pmap_pack
+// The functions only pass on what the crates `opening`, `map`, `rating`, `running`, `packing` and `unpacking` answer. The
+// definitions that the contracts cite are those of the crates `format` and `tariff`, with `running`, `packing` and `unpacking`
+// for the lists that are lent to them; specs/Cells.antt says what a cell holds after a call, specs/Desk.antt what pmap_pack
 // returns.
 mod areas;
 mod cells;
@@ -28,6 +29,7 @@ mod session;
 mod size;
 
 pub use areas::pmap_area_first;
+pub use areas::pmap_factor;
 pub use areas::pmap_neighbours;
 pub use areas::pmap_sides;
 pub use desk::pmap_pack;
