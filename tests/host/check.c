@@ -297,6 +297,7 @@ int main(int argc, char **argv)
         large(2048, 6);
         largest();
         random_neighbours(24, MOST_BORDERS);
+        ordered_factors(6, MOST_BORDERS);
         random_factors(24, MOST_BORDERS);
     }
     every_status();

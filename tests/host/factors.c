@@ -298,5 +298,5 @@ void ordered_factors(size_t count, size_t most)
     expect(by_size > few, "order", "few means have other bits if they are added by size");
     expect(with_more_digits > few, "order", "few means have other bits if they are rounded at the end only");
     expect(by_reciprocal > few, "order", "few means have other bits if they are multiplied by the reciprocal");
-    part_ends("means whose bits depend on the order and on each rounding");
+    part_ends(most > 100 ? "means of many factors" : "means whose bits depend on the order and on each rounding");
 }

@@ -114,9 +114,18 @@ static void compare_kinds(size_t area)
     }
 }
 
+/* The names that pmap.h has for them. */
+static void compare_names(void)
+{
+    expect(bits_of(PMAP_LEAST_FACTOR) == LEAST_FACTOR && bits_of(PMAP_MOST_FACTOR) == MOST_FACTOR, "pmap.h", "has other bounds");
+    expect(PMAP_KIND_OWN == 0 && PMAP_KIND_HELD == 1 && PMAP_KIND_UNKNOWN == 2, "pmap.h", "has other kinds");
+    expect(PMAP_TARIFF == 18 && PMAP_NO_FACTOR == 19, "pmap.h", "has other refusals");
+}
+
 void tariff_limits(void)
 {
     size_t area, field;
+    compare_names();
     take_map("[][]");
     for (area = 1; area <= AREAS; area++) {
         for (field = 0; field < PER_AREA; field++) compare_numbers_in(area, field);
