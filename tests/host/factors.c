@@ -66,7 +66,8 @@ static uint64_t factor_by_chance(void)
     }
 }
 
-uint64_t outside_by_chance(void)
+/* Outside the bounds, or no number. */
+static uint64_t outside_by_chance(void)
 {
     static const uint64_t outside[] = {
         0x0000000000000000, 0x8000000000000000, 0x0000000000000001, 0x000FFFFFFFFFFFFF, 0x0010000000000000, /* zeros, denormals */
@@ -88,7 +89,7 @@ uint64_t outside_by_chance(void)
     }
 }
 
-uint64_t bits_by_chance(void)
+static uint64_t bits_by_chance(void)
 {
     size_t which = random_below(4);
     return which == 0 ? random_number() : which == 1 ? factor_by_chance() : outside_by_chance();

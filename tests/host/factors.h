@@ -17,10 +17,6 @@ void compare_factor(const uint8_t *map, size_t length, const struct tariff *t, s
    where that is a refusal. */
 void compare_factors(const uint8_t *map, size_t length, uint8_t opening, const struct book *b);
 
-/* A number that is outside the bounds, or none; any bits at all. */
-uint64_t outside_by_chance(void);
-uint64_t bits_by_chance(void);
-
 /* So many maps of up to `most` borders by chance, with a tariff by chance: every area, and the means once more in whole numbers. */
 void random_factors(size_t count, size_t most);
 
