@@ -241,6 +241,9 @@ std::vector<grown> all_grown()
     std::vector<grown> list;
     for (const row &r : call_rows())
         list.push_back({ r.name, [r](const maps &all) { return call_task(proved_calls, r.call, all, asked_of(r, all)); } });
+    list.push_back({ "factor, known", [](const maps &all) { return factor_task(all, KNOWN); } });
+    list.push_back({ "factor", [](const maps &all) { return factor_task(all, AT_RANDOM); } });
+    list.push_back({ "factor, largest", [](const maps &all) { return factor_task(all, LARGEST); } });
     list.push_back({ "session, 1000 calls", [](const maps &all) { return session_task(all, 1000); } });
     list.push_back({ "pack", pack_task });
     list.push_back({ "unpack", unpack_task });
@@ -259,10 +262,10 @@ int main()
     for (size_t m : { 16, 128, 1024, 2048 })
         for (int k = 0; k < ALL_KINDS; k++) {
             bytes map = make_map(kind(k), m);
-            if (!calls_agree(map) || !sessions_agree(map) || !unpacking_agrees(map) || !schedules_agree(map))
+            if (!calls_agree(map) || !sessions_agree(map) || !unpacking_agrees(map) || !schedules_agree(map) || !factors_agree(map))
                 return 1;
         }
-    std::printf("all agree on every answer: %d kinds of maps, 16 to 2,048 borders, %d calls, 300 questions each; sessions of 300 calls; unpacking; schedules; refusals of each\n", ALL_KINDS, NUMBER_CALLS + 2);
+    std::printf("all agree on every answer: %d kinds of maps, 16 to 2,048 borders, %d calls, 300 questions each; sessions of 300 calls; unpacking; schedules; factors; refusals of each\n", ALL_KINDS, NUMBER_CALLS + 2);
     for (size_t m : { 16, 128, 2048 })
         compare_all(m);
     show_neighbours(2048);
@@ -271,6 +274,7 @@ int main()
     show_packing(2048);
     show_unpacking(2048);
     show_schedules(2048);
+    show_factors(2048);
     show_growth(all_grown());
     return 0;
 }

@@ -1,6 +1,7 @@
 /* (a) The same checks and the same calls, bit by bit in plain C. */
 #include "answers.h"
 #include "calls.h"
+#include "tariff.h"
 
 struct strings {
     const uint8_t *a, *b[2]; /* b[1] is B, b[0] is B* */
@@ -234,6 +235,56 @@ static uint8_t joining(const uint8_t *map, size_t length, size_t u, size_t v, ui
         p = step(&x, 1, p);
     }
     return 0;
+}
+
+/* The area across each side of area k, by its position, in one reading of the strings; 0 where there is no side. */
+static void find_across(const struct strings *x, size_t k, uint16_t *across)
+{
+    uint16_t opened_in[2][2048], opened_at[2][2048], area = 1, last = 1; /* of each border that is open, its first place */
+    size_t depth[2] = { 0, 0 }, at[2] = { 0, 0 }, p;
+
+    for (p = 0; p < x->places; p++) {
+        int v = bit(x->a, p);
+        uint16_t here = area, there;
+
+        across[p] = 0;
+        if (!bit(x->b[v], at[v]++)) {
+            opened_at[v][depth[v]] = (uint16_t)p;
+            opened_in[v][depth[v]++] = area;
+            if (v == 0)
+                area = ++last;
+            continue;
+        }
+        there = opened_in[v][--depth[v]];
+        if (v == 0)
+            area = there;
+        if (here == k)
+            across[p] = there;
+        if (there == k)
+            across[opened_at[v][depth[v]]] = here;
+    }
+}
+
+uint8_t bitwise_factor(const uint8_t *map, size_t length, size_t area, const uint8_t *kinds, size_t kinds_length, const double *values, size_t values_length,
+                       double *out)
+{
+    struct strings x;
+    struct tariff t = { kinds, kinds_length, values, values_length };
+    struct mean mean = { 0.0, 0 };
+    uint16_t across[4096];
+    uint8_t status = refuse(map, length, &x);
+    size_t p;
+    int known = 0;
+
+    if (status == 0)
+        status = begin_factor(&t, x.m - x.n + 2, area, out, &known);
+    if (status != 0 || known)
+        return status;
+    find_across(&x, area, across);
+    for (p = 0; p < x.places; p++)
+        if (across[p] != 0)
+            add_side(&mean, &t, across[p]);
+    return end_factor(&mean, out);
 }
 
 const struct calls bitwise_calls = {

@@ -15,6 +15,8 @@ typedef uint8_t joining_call(const uint8_t *map, size_t length, size_t u, size_t
 typedef uint8_t session_call(const uint8_t *map, size_t length, size_t first, const uint8_t *calls, size_t calls_length, uint8_t *statuses, size_t statuses_length,
                              uint16_t *answers, size_t answers_length, size_t *place);
 typedef uint8_t unpack_call(const uint8_t *map, size_t length, uint16_t *turning, size_t turning_length, uint8_t *marks, size_t marks_length, uint16_t *m);
+typedef uint8_t factor_call(const uint8_t *map, size_t length, size_t area, const uint8_t *kinds, size_t kinds_length, const double *values, size_t values_length,
+                            double *out);
 typedef size_t schedule_call(const uint8_t *map, size_t length, uint8_t *out);
 
 enum { NUMBER_CALLS = 11 };
@@ -31,11 +33,15 @@ extern const struct calls bitwise_calls;   /* bit by bit, from the bytes */
 extern const struct calls halfedge_calls;  /* arrays of half-edges, built from the bytes at each call */
 extern const struct calls succinct_calls;  /* sdsl's rank, select and parentheses, built from the bytes at each call */
 
-/* Arrays of half-edges, built from the bytes once: then all calls of a session, or the drawing, as pmap gives them, or the text of
-   the schedule. */
+/* Arrays of half-edges, built from the bytes once: then all calls of a session, the drawing, or the factor of an area, as pmap gives
+   them, or the text of the schedule. */
 session_call halfedge_session;
 unpack_call halfedge_unpack;
+factor_call halfedge_factor;
 schedule_call halfedge_schedule;
+
+/* The factor of an area bit by bit. */
+factor_call bitwise_factor;
 
 /* Checks 1 to 7 and the map, in a plain way: the status and pair as pmap_pack gives them. */
 uint32_t plain_pack(const uint16_t *turning, size_t turning_length, const uint8_t *marks, size_t marks_length, size_t start,

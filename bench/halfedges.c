@@ -1,8 +1,10 @@
 /* (b) The same checks, then plain arrays of half-edges built from the bytes, then the answer by looking it up: of one call, of
-   all calls of a session, of every place at once, which is the drawing, or of every area, which is the schedule. */
+   all calls of a session, of every place at once, which is the drawing, of every side of an area, which is its factor, or of every
+   area, which is the schedule. */
 #include "answers.h"
 #include "calls.h"
 #include "pages.h"
+#include "tariff.h"
 
 enum { MOST = 4096 };
 
@@ -226,6 +228,28 @@ uint8_t halfedge_unpack(const uint8_t *map, size_t length, uint16_t *turning, si
         turning[end[p]] = end[x.step[1][p]];
     *m = (uint16_t)x.m;
     return 0;
+}
+
+uint8_t halfedge_factor(const uint8_t *map, size_t length, size_t area, const uint8_t *kinds, size_t kinds_length, const double *values, size_t values_length,
+                        double *out)
+{
+    struct arrays x;
+    struct tariff t = { kinds, kinds_length, values, values_length };
+    struct mean mean = { 0.0, 0 };
+    uint8_t status = build(map, length, &x);
+    size_t p, left;
+    int known = 0;
+
+    if (status == 0)
+        status = begin_factor(&t, x.m - x.n + 2, area, out, &known);
+    if (status != 0 || known)
+        return status;
+    p = x.first[0][area];
+    for (left = x.size[0][area]; left > 0; left--) {
+        add_side(&mean, &t, x.cell[0][x.mate[p]]);
+        p = x.step[0][p];
+    }
+    return end_factor(&mean, out);
 }
 
 size_t halfedge_schedule(const uint8_t *map, size_t length, uint8_t *out)

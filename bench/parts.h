@@ -1,5 +1,5 @@
-// What the parts of the bench offer each other: sessions, packing and unpacking, schedules, growth. The calls on a map are in
-// bench.cpp.
+// What the parts of the bench offer each other: sessions, packing and unpacking, schedules, factors, growth. The calls on a map are
+// in bench.cpp.
 #ifndef PARTS_H
 #define PARTS_H
 
@@ -17,12 +17,16 @@ using maps = std::vector<bytes>;
 bool sessions_agree(const bytes &map);
 bool unpacking_agrees(const bytes &map);
 bool schedules_agree(const bytes &map);
+bool factors_agree(const bytes &map);
 
-// What is proved, on one map after the other, while they are there: a session of so many calls, packing, unpacking, a schedule.
+// What is proved, on one map after the other, while they are there: a session of so many calls, packing, unpacking, a schedule, a
+// factor that is known, one that is not of an area at random, or of the area with most sides.
 task session_task(const maps &all, size_t calls);
 task pack_task(const maps &all);
 task unpack_task(const maps &all);
 task schedule_task(const maps &all);
+enum factor_of { KNOWN, AT_RANDOM, LARGEST };
+task factor_task(const maps &all, factor_of which);
 
 // The tables, on every kind of map.
 void show_sessions(size_t m, size_t calls);
@@ -30,6 +34,7 @@ void show_short_sessions();
 void show_packing(size_t m);
 void show_unpacking(size_t m);
 void show_schedules(size_t m);
+void show_factors(size_t m);
 
 // How the times of what is proved grow with m: on random maps, and on the kind of map that is slowest at each size.
 struct grown {

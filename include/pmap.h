@@ -1,10 +1,10 @@
 /*
- * pmap.h - packed maps of rating areas: packing a drawing and unpacking a map; opening, moves, counts, the joining border
- * and whole sessions on the bytes of a map. Link with libpmap.a (`rt staticlib pmap`).
+ * pmap.h - packed maps of rating areas: packing a drawing and unpacking a map; opening, moves, counts, factors, the joining
+ * border and whole sessions on the bytes of a map. Link with libpmap.a (`rt staticlib pmap`).
  *
- * Proved. For all bytes and all numbers, and as long as the caller keeps to "Memory" below, every function ends, touches no
- * other memory, and answers and leaves in the memory it was lent what stands here. Not proved: "Time", "Stack" and
- * "Threads" below, which say what was measured and how the functions are built.
+ * Proved. For all bytes and all numbers, and as long as the caller keeps to "Memory" and "Doubles" below, every function
+ * ends, touches no other memory, and answers and leaves in the memory it was lent what stands here. Not proved: "Time",
+ * "Stack" and "Threads" below, which say what was measured and how the functions are built.
  *
  * Words. A map has m borders (0 to 2,048), n points (1 to m+1) and m-n+2 areas. Each border has two places, so that the
  * places are 1 to 2m. Points are 1 to n, areas are 1 to m-n+2. The three kinds of numbers are not to be mixed up: place
@@ -21,19 +21,24 @@
  * them. pmap_pack returns two border numbers beside the status, and says what it leaves in its working list.
  *
  * Memory. `map` points to map_len readable bytes, with no alignment asked for; it may be NULL if map_len is 0. So it is
- * with every list: turning_len, marks_len, work_len, out_len, calls_len, statuses_len and answers_len count entries, the
- * list may be NULL if it has none, and lists of uint16_t are aligned as such. The functions only read what is const. Out
- * cells are not NULL and are aligned as what they hold: uint16_t, but *place of pmap_session as size_t. All memory stays
- * the caller's: nothing is kept, freed or handed over. The lists and the cells that are lent to one call must not overlap
- * one another, and no other thread may write any of them during the call, or read those that are not const.
+ * with every list: turning_len, marks_len, work_len, out_len, calls_len, statuses_len, answers_len, kinds_len and values_len
+ * count entries, the list may be NULL if it has none, and lists of uint16_t and of double are aligned as such. The functions
+ * only read what is const. Out cells are not NULL and are aligned as what they hold: uint16_t, but *place of pmap_session as
+ * size_t and *out of pmap_factor as double. All memory stays the caller's: nothing is kept, freed or handed over. The lists
+ * and the cells that are lent to one call must not overlap one another, and no other thread may write any of them during the
+ * call, or read those that are not const.
+ *
+ * Doubles. Only pmap_factor has to do with them. A double is a binary64 of IEEE 754. The thread that calls must round to
+ * nearest, ties to even, and must not trap, as every C program does unless it asks for something else (fenv.h); the flags of
+ * fenv.h may be raised.
  *
  * Time. pmap_pack takes time in proportion to m at most, every call on a map in proportion to map_len, pmap_session to
  * map_len and calls_len together, whatever the map is like. docs/SPEED.md has the times measured.
  *
- * Stack. No function recurses or allocates. pmap_session, pmap_neighbours, pmap_joining and pmap_unpack hold lists of the
- * whole map on the stack: the deepest of them was measured at 33,044 bytes below the caller's frame, every other call at up
- * to 544 (libpmap.a of this toolchain, x86-64). A host that leaves PMAP_STACK bytes has nearly twice what any call takes.
- * tests/host measures it again at each run.
+ * Stack. No function recurses or allocates. pmap_session, pmap_neighbours, pmap_factor, pmap_joining and pmap_unpack hold
+ * lists of the whole map on the stack: the deepest of them was measured at 33,044 bytes below the caller's frame, every other
+ * call at up to 544 (libpmap.a of this toolchain, x86-64). A host that leaves PMAP_STACK bytes has nearly twice what any call
+ * takes. tests/host measures it again at each run.
  *
  * Threads. Nothing is kept between calls, there is no global state, and no function calls back: calls may run in several
  * threads at once.
@@ -67,7 +72,17 @@ enum {
     PMAP_NO_POINT = 14,    /* point is not 1 to n */
     PMAP_NO_AREA = 15,     /* area is not 1 to m-n+2 */
     PMAP_SHORT_LISTS = 16, /* turning_len is under 2m, or marks_len under m */
-    PMAP_NO_CALL = 255     /* a code in `calls` is over 5; document 01's table, which has all the others, ends at 17 */
+    PMAP_TARIFF = 18,      /* kinds_len is not m-n+2, or values_len not three times that; or in any area a kind is over 2, a
+                              number that its kind uses is outside its bounds or a NaN, or a floor is above its ceiling */
+    PMAP_NO_FACTOR = 19,   /* the area's factor is not known, and no known one lies across any of its sides */
+    PMAP_NO_CALL = 255     /* a code in `calls` is over 5; all the others are numbers of documents 01 and 02 */
+};
+
+/* The kinds of an area's factor, for pmap_factor. */
+enum {
+    PMAP_KIND_OWN = 0,    /* the area's own; its floor and ceiling are not read */
+    PMAP_KIND_HELD = 1,   /* raised to its floor or lowered to its ceiling */
+    PMAP_KIND_UNKNOWN = 2 /* not known; its factor, floor and ceiling are not read */
 };
 
 /* The calls of a session, by their codes. */
@@ -85,6 +100,10 @@ enum {
 
 /* The greatest number of borders: a turning list has at most twice as many entries. */
 #define PMAP_MOST_BORDERS 2048
+
+/* The bounds of factors, floors and ceilings, both allowed: the double nearest to 0.01, bits 3F847AE147AE147B, and 100. */
+#define PMAP_LEAST_FACTOR 0.01
+#define PMAP_MOST_FACTOR 100.0
 
 /* Bytes of stack that are enough for every call: see "Stack". */
 #define PMAP_STACK 65536
@@ -199,6 +218,29 @@ uint8_t pmap_sides(const uint8_t *map, size_t map_len, size_t area, uint16_t *ou
  * Status: 0, 8, 9, 10, 11, 12, 15.
  */
 uint8_t pmap_neighbours(const uint8_t *map, size_t map_len, size_t area, uint16_t *out);
+
+/*
+ * The area's factor in a tariff. The tariff is lent as two lists that go through the areas in order, area 1 first: `kinds`
+ * has a kind for each area, `values` three doubles in a row for each, its factor, its floor and its ceiling. With v = m-n+2
+ * areas kinds_len is exactly v and values_len exactly 3v.
+ *
+ * PMAP_KIND_OWN: the answer is the factor.
+ * PMAP_KIND_HELD: the answer is the floor if the factor is below it, the ceiling if the factor is above that, else the
+ * factor.
+ * PMAP_KIND_UNKNOWN: the answer is the mean across the area's sides. It begins at 0.0; for each side, in the order of
+ * pmap_along from the answer of pmap_area_first, once round, it adds the factor of the area across if that is own or held,
+ * a held one as held; it divides the sum by how many were added. An area counts once for each side that it lies across. One
+ * that is not known is passed over, and so is the area itself. Each addition and the division are rounded once, so that the
+ * bits of the answer are fixed. It is not held to any limit.
+ *
+ * What a kind uses, in any area, is from PMAP_LEAST_FACTOR to PMAP_MOST_FACTOR, and the floor of a held factor is not above
+ * its ceiling; the factor may lie outside the two. Otherwise the status is 18, whichever area was asked for. What a kind
+ * doesn't use may be anything, a NaN too, and changes nothing. The status is 19 if the factor of the area asked for is not
+ * known and none was added, so also if the map has no borders.
+ * Status: 0, 8, 9, 10, 11, 12, 15, 18, 19.
+ */
+uint8_t pmap_factor(const uint8_t *map, size_t map_len, size_t area, const uint8_t *kinds, size_t kinds_len,
+                    const double *values, size_t values_len, double *out);
 
 /*
  * The joining border of points u and v: the first place about u, in turning order from u's first place, whose crossing

@@ -103,6 +103,21 @@ void card_of_kinds(struct card *card, const char *kinds)
     }
 }
 
+void repeat_kinds(char kinds[MOST_ENDS + 1], const struct repeated *parts, size_t count)
+{
+    size_t part, times;
+    *kinds = '\0';
+    for (part = 0; part < count; part++)
+        for (times = parts[part].times; times > 0; times--) kinds = stpcpy(kinds, parts[part].kinds);
+}
+
+size_t areas_of_kinds(const char *kinds)
+{
+    size_t areas = 1;
+    for (; *kinds != '\0'; kinds++) areas += *kinds == '[';
+    return areas;
+}
+
 void renumber(const struct drawing *d, struct drawing *renumbered)
 {
     static size_t border[MOST_BORDERS], end[MOST_ENDS];

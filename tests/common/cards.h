@@ -27,6 +27,16 @@ void card_of_strings(struct card *card, size_t m, size_t n, uint64_t strings);
 /* A card by the kinds of its places in order, as a listing has them: ( and ) of marked borders, [ and ] of the others. */
 void card_of_kinds(struct card *card, const char *kinds);
 
+/* Kinds that stand so many times in a row; what `count` of them give one after the other, 4,096 at most. */
+struct repeated {
+    const char *kinds;
+    size_t times;
+};
+void repeat_kinds(char kinds[MOST_ENDS + 1], const struct repeated *parts, size_t count);
+
+/* How many areas such a map has: "There are m-n+2 areas", one more than borders that are not marked. */
+size_t areas_of_kinds(const char *kinds);
+
 /* The same drawing with its borders renumbered by chance, some of them turned round, and another start. */
 void renumber(const struct drawing *d, struct drawing *renumbered);
 

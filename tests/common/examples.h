@@ -1,4 +1,4 @@
-/* Document 01's worked maps: the triangle, document 002's Figure 1, (a), (b) and (c). */
+/* Document 01's worked maps: the triangle, document 002's Figure 1, (a), (b) and (c). Figure 1 also by the kinds of its places. */
 #ifndef EXAMPLES_H
 #define EXAMPLES_H
 
@@ -9,6 +9,8 @@ static const uint8_t figure_1[] = {0x0E, 0x00, 0x08, 0x00, 0xB6, 0x4E, 0x8B, 0x0
 static const uint8_t empty[] = {0x00, 0x00, 0x01, 0x00};
 static const uint8_t stub[] = {0x01, 0x00, 0x02, 0x00, 0x03, 0x02};
 static const uint8_t loop[] = {0x01, 0x00, 0x01, 0x00, 0x00, 0x02};
+
+#define FIGURE_1 "[((])([)[)((][)[)(](]][)])[]"
 
 #define CARD(c) (c), sizeof(c)
 

@@ -13,7 +13,8 @@ finish() {
 
 work=$PWD/target/$name
 library=target/staticlib/libpmap.a
-flags=(-std=c11 -D_DEFAULT_SOURCE -O2 -Wall -Wextra -Wpedantic -Werror -Iinclude -Itests/common)
+# No two operations on doubles are fused into one: tests/common/tariff.c says why.
+flags=(-std=c11 -D_DEFAULT_SOURCE -ffp-contract=off -O2 -Wall -Wextra -Wpedantic -Werror -Iinclude -Itests/common)
 
 # What the tests need. Without it nothing is tested, and that is a failure.
 begin() {

@@ -32,6 +32,16 @@ void prepare_lending(int heap)
     signal(SIGBUS, outside);
 }
 
+void fill(void *list, size_t bytes)
+{
+    uint8_t *to = list;
+    size_t i;
+    for (i = 0; i < bytes; i += 8) {
+        uint64_t number = random_number();
+        memcpy(to + i, &number, bytes - i < 8 ? bytes - i : 8);
+    }
+}
+
 static void no_memory(void)
 {
     printf("check: no memory\n0 passed, 1 failed\n");
@@ -69,6 +79,12 @@ void *lend(struct loan *loan, const void *contents, size_t bytes)
     }
     if (bytes > 0) memcpy(loan->list, contents, bytes);
     return loan->list;
+}
+
+void *lend_list(struct loan *loan, const void *contents, size_t bytes)
+{
+    void *list = lend(loan, contents, bytes);
+    return bytes == 0 && random_below(2) == 0 ? NULL : list;
 }
 
 int take_back(struct loan *loan, const void *contents)

@@ -19,8 +19,12 @@ struct loan {
 /* Called once, before anything is lent. */
 void prepare_lending(int heap);
 
-/* Lends a list with these contents. */
+/* Bytes by chance, for what a list holds beforehand. */
+void fill(void *list, size_t bytes);
+
+/* Lends a list with these contents. With lend_list one that has no entries is NULL as chance has it. */
 void *lend(struct loan *loan, const void *contents, size_t bytes);
+void *lend_list(struct loan *loan, const void *contents, size_t bytes);
 
 /* Ends the loan. Gives 1 if the list holds `contents`, and what stands beside it is as it was. */
 int take_back(struct loan *loan, const void *contents);

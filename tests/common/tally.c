@@ -2,6 +2,7 @@
 #include "tally.h"
 
 #include <stdio.h>
+#include <stdlib.h>
 
 static unsigned long compared, differing, parts_passed, parts_failed, seen[256];
 
@@ -52,6 +53,7 @@ void part_ends(const char *name)
     if (good) parts_passed++;
     else parts_failed++;
     compared = differing = 0;
+    if (!good && getenv("FAULT") != NULL && atoi(getenv("FAULT")) != 0) exit((int)finish());
 }
 
 unsigned long finish(void)

@@ -17,7 +17,8 @@ void seen_once(uint8_t status);
 unsigned long times_seen(uint8_t status);
 void expect_seen(const uint8_t *statuses, size_t count);
 
-/* Ends a part of the comparison: a line with its counts. It passed if something was compared and nothing differs. */
+/* Ends a part of the comparison: a line with its counts. It passed if something was compared and nothing differs. With a fault
+   planted in the library (FAULT in the environment) the first part that does not pass ends the whole. */
 void part_ends(const char *name);
 
 /* Prints 'N passed, M failed', a part being one, and gives M. */

@@ -14,12 +14,14 @@
 #include "compare.h"
 #include "damage.h"
 #include "examples.h"
+#include "factors.h"
 #include "lending.h"
 #include "neighbours.h"
 #include "pmap.h"
 #include "reference.h"
 #include "sessions.h"
 #include "tally.h"
+#include "tariffs.h"
 
 static int small;
 static struct drawing drawing, renumbered;
@@ -260,7 +262,7 @@ static void no_bytes(void)
 /* Every status came up, so no part above ran idle. */
 static void every_status(void)
 {
-    static const uint8_t statuses[] = {0, 2, 8, 9, 10, 11, 12, 13, 14, 15, 255};
+    static const uint8_t statuses[] = {0, 2, 8, 9, 10, 11, 12, 13, 14, 15, 18, 19, 255};
     expect_seen(statuses, sizeof statuses);
     part_ends("every status was seen");
 }
@@ -280,6 +282,13 @@ int main(int argc, char **argv)
     random_drawings(small ? 60 : 6000);
     known_neighbours(!small);
     random_neighbours(small ? 60 : 3000, 40);
+    known_factors();
+    tariff_limits();
+    tariff_lengths();
+    factor_refusals();
+    unwritten_values();
+    ordered_factors(small ? 60 : 1000, 40);
+    random_factors(small ? 60 : 6000, 40);
     damaged();
     random_bytes(small ? 100 : 20000);
     long_sessions();
@@ -288,6 +297,8 @@ int main(int argc, char **argv)
         large(2048, 6);
         largest();
         random_neighbours(24, MOST_BORDERS);
+        ordered_factors(6, MOST_BORDERS);
+        random_factors(24, MOST_BORDERS);
     }
     every_status();
     return finish() > 0;

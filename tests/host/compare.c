@@ -5,6 +5,7 @@
 #include <string.h>
 
 #include "cards.h"
+#include "factors.h"
 #include "lending.h"
 #include "pmap.h"
 #include "sessions.h"
@@ -94,7 +95,7 @@ static void compare_odd(const uint8_t *map, size_t length, const struct book *b)
     for (i = 0; i < sizeof near / sizeof *near; i++) compare_number(map, length, 0, b, near[i]);
 }
 
-/* All places, points, areas and pairs of points, the odd numbers, and sessions. */
+/* All places, points, areas and pairs of points, the odd numbers, sessions, and a factor. */
 static void compare_all(const uint8_t *map, size_t length, const struct book *b)
 {
     const struct call *call;
@@ -110,9 +111,10 @@ static void compare_all(const uint8_t *map, size_t length, const struct book *b)
     for (k = 1; k <= b->areas; k++)
         for EACH(of_area, call) compare_call(call, map, length, 0, b, k);
     compare_sessions(map, length, 0, b);
+    compare_factors(map, length, 0, b);
 }
 
-/* `count` places, points, areas and pairs of points, by chance, the odd numbers, and sessions. */
+/* `count` places, points, areas and pairs of points, by chance, the odd numbers, sessions, and a factor. */
 static void compare_some(const uint8_t *map, size_t length, const struct book *b, size_t count)
 {
     const struct call *call;
@@ -127,6 +129,7 @@ static void compare_some(const uint8_t *map, size_t length, const struct book *b
         compare_joining(map, length, 0, b, point, book_point(b, book_cross(b, place).value).value);
     }
     compare_sessions(map, length, 0, b);
+    compare_factors(map, length, 0, b);
 }
 
 void compare_refused(const uint8_t *map, size_t length, uint8_t status)
@@ -136,6 +139,7 @@ void compare_refused(const uint8_t *map, size_t length, uint8_t status)
     compare_number(map, length, status, NULL, 1);
     compare_number(map, length, status, NULL, SIZE_MAX);
     compare_sessions(map, length, status, NULL);
+    compare_factors(map, length, status, NULL);
 }
 
 static struct drawing drawing;

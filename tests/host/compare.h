@@ -11,13 +11,14 @@
 /* One call about a number, with what it must give. */
 void compare_value(const char *name, library_call *call, const uint8_t *map, size_t length, size_t number, uint8_t status, size_t value);
 
-/* A card that is refused: opening, every call and every session give that number, whatever the number asked about. */
+/* A card that is refused: opening, every call, every session and every factor give that number, whatever was asked. */
 void compare_refused(const uint8_t *map, size_t length, uint8_t status);
 
 /* Opening alone of a card that is refused. */
 void compare_refused_open(const uint8_t *bytes, size_t length, uint8_t status);
 
-/* Any bytes: if the reference opens them, every call on every place, point, area and pair of points, odd numbers, and sessions. */
+/* Any bytes: if the reference opens them, every call on every place, point, area and pair of points, odd numbers, sessions, and a
+   factor. */
 void compare_bytes(const uint8_t *bytes, size_t length);
 
 /* The card that a drawing packs to, against the book of that very drawing: every number, or `some` of each kind. */

@@ -31,17 +31,7 @@ static void compare_no_area(size_t number)
     compare_value("pmap_neighbours", pmap_neighbours, card.bytes, card.length, number, 15, 0);
 }
 
-/* "There are m-n+2 areas": one more than borders that are not marked. */
-static size_t areas_of(const char *kinds)
-{
-    size_t areas = 1;
-    for (; *kinds != '\0'; kinds++) areas += *kinds == '[';
-    return areas;
-}
-
 /* ---- small maps: every area by hand ---- */
-
-#define FIGURE_1 "[((])([)[)((][)[)(](]][)])[]"
 
 static const struct {
     const char *kinds;
@@ -67,7 +57,7 @@ static const struct {
 
 static void known_map(const char *kinds, const struct counts *of)
 {
-    size_t areas = areas_of(kinds), k;
+    size_t areas = areas_of_kinds(kinds), k;
     card_of_kinds(&card, kinds);
     for (k = 1; k <= areas; k++) compare_area(k, of[k - 1]);
     compare_no_area(0);
@@ -78,10 +68,7 @@ static void known_map(const char *kinds, const struct counts *of)
 /* ---- large maps: kinds that are repeated, and the first, the second and the last area by hand ---- */
 
 static const struct {
-    struct {
-        const char *kinds;
-        size_t times;
-    } parts[4];
+    struct repeated parts[4];
     struct counts first, second, last; /* no second where the first is the last */
 } large[] = {
     {{{"()", 2048}}, {4096, 0}, {0, 0}, {4096, 0}},                               /* a star: one area */
@@ -97,11 +84,9 @@ static const struct {
 static void large_map(size_t i, int every_area)
 {
     static char kinds[MOST_ENDS + 1];
-    size_t part, times, areas;
-    char *end = kinds;
-    for (part = 0; part < 4; part++)
-        for (times = large[i].parts[part].times; times > 0; times--) end = stpcpy(end, large[i].parts[part].kinds);
-    areas = areas_of(kinds);
+    size_t areas;
+    repeat_kinds(kinds, large[i].parts, 4);
+    areas = areas_of_kinds(kinds);
     card_of_kinds(&card, kinds);
     compare_area(1, large[i].first);
     if (areas > 1) compare_area(2, large[i].second);

@@ -23,20 +23,6 @@ struct told {
     size_t place;
 };
 
-static void fill(void *list, size_t bytes)
-{
-    uint8_t *to = list;
-    size_t i;
-    for (i = 0; i < bytes; i++) to[i] = (uint8_t)random_below(256);
-}
-
-/* A list that has no entries may be NULL. */
-static void *lend_list(struct loan *loan, const void *contents, size_t bytes)
-{
-    void *list = lend(loan, contents, bytes);
-    return bytes == 0 && random_below(2) == 0 ? NULL : list;
-}
-
 static void session_differs(const char *what, const uint8_t *map, size_t length, const struct asked *s, uint8_t want, uint8_t status)
 {
     char detail[200];

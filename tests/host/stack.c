@@ -14,7 +14,7 @@
 #include "cards.h"
 #include "pmap.h"
 
-enum { STACK = 1 << 17, PAINT = 0xA5, BORDERS = 2048, CALLS = 64 };
+enum { STACK = 1 << 17, PAINT = 0xA5, BORDERS = 2048, AREAS = BORDERS + 1, CALLS = 64 };
 
 static _Alignas(64) unsigned char memory[STACK];
 static ucontext_t here, there;
@@ -23,14 +23,17 @@ static ucontext_t here, there;
 static void (*task)(void);
 static library_call *call;
 static struct card card;
-static size_t asked, left;
+static size_t asked, left, areas;
 static uint16_t turning[2 * BORDERS], again[2 * BORDERS], work[6 * BORDERS], answers[CALLS], m, n, out;
 static uint8_t marks[BORDERS], status, bytes[PMAP_LONGEST], calls[CALLS], statuses[CALLS];
+static uint8_t kinds[AREAS];
+static double values[3 * AREAS], factor;
 static uint32_t packed;
 
 static void nothing(void) { status = 0; }
 static void open_card(void) { status = pmap_open(card.bytes, card.length, &m, &n); }
 static void ask(void) { status = call(card.bytes, card.length, asked, &out); }
+static void find_factor(void) { status = pmap_factor(card.bytes, card.length, asked, kinds, areas, values, 3 * areas, &factor); }
 static void join(void) { status = pmap_joining(card.bytes, card.length, asked, asked, &out); }
 static void run_session(void) { status = pmap_session(card.bytes, card.length, asked, calls, CALLS, statuses, CALLS, answers, CALLS, &left); }
 static void unpack_card(void) { status = pmap_unpack(card.bytes, card.length, turning, 2 * BORDERS, marks, BORDERS, &m); }
@@ -72,20 +75,35 @@ static int show(const char *group, size_t most)
     return most > PMAP_STACK;
 }
 
-/* The neighbours of area 1 where it has most sides, and where it has most neighbours: in a tree, and beside 2,048 loops. */
-static void keep_most_neighbours(size_t *most)
+/* A factor in a tariff by chance, and one that is not known; and with a tariff that is refused at its last area. */
+static void keep_most_factor(size_t *most)
 {
+    size_t i;
+
+    for (i = 0; i < 3 * areas; i++) values[i] = 1.0;
+    for (i = 0; i < areas; i++) kinds[i] = (uint8_t)random_below(3);
+    keep_most(most, find_factor);
+    if (asked >= 1 && asked <= areas) kinds[asked - 1] = PMAP_KIND_UNKNOWN;
+    keep_most(most, find_factor);
+    kinds[areas - 1] = 3;
+    keep_most(most, find_factor);
+}
+
+/* Area 1 of a card of so many points. */
+static void keep_most_of_first(size_t points, unsigned lean, size_t *neighbours, size_t *factors)
+{
+    random_card(&card, BORDERS, points, lean);
+    areas = BORDERS - points + 2;
     call = pmap_neighbours;
     asked = 1;
-    random_card(&card, BORDERS, BORDERS + 1, 4);
-    keep_most(most, ask);
-    random_card(&card, BORDERS, 1, 0);
-    keep_most(most, ask);
+    keep_most(neighbours, ask);
+    keep_most_factor(factors);
 }
 
 int main(void)
 {
-    size_t opening = 0, places = 0, points = 0, areas = 0, neighbours = 0, joining = 0, sessions = 0, unpacking = 0, packing = 0, round, i;
+    size_t opening = 0, places = 0, points = 0, of_areas = 0, neighbours = 0, factors = 0, joining = 0, sessions = 0, unpacking = 0,
+           packing = 0, round, i;
     int over = 0;
 
     base = used(nothing);
@@ -108,8 +126,10 @@ int main(void)
         for (i = 0; i < 6 * OF_AREA; i++) {
             call = of_area[i % OF_AREA].library;
             asked = random_below((size_t)m - n + 4);
-            keep_most(call == pmap_neighbours ? &neighbours : &areas, ask);
+            keep_most(call == pmap_neighbours ? &neighbours : &of_areas, ask);
         }
+        areas = (size_t)m - n + 2;
+        keep_most_factor(&factors);
         asked = 1 + random_below(2 * borders + 1);
         for (i = 0; i < CALLS; i++) calls[i] = (uint8_t)random_below(OF_PLACE);
         keep_most(&sessions, run_session);
@@ -127,12 +147,14 @@ int main(void)
             }
         }
     }
-    keep_most_neighbours(&neighbours);
+    keep_most_of_first(BORDERS + 1, 4, &neighbours, &factors); /* most sides: a tree */
+    keep_most_of_first(1, 0, &neighbours, &factors);           /* most neighbours: beside 2,048 loops */
     over |= show("pmap_open", opening);
     over |= show("of a place", places);
     over |= show("of a point", points);
-    over |= show("of an area", areas);
+    over |= show("of an area", of_areas);
     over |= show("pmap_neighbours", neighbours);
+    over |= show("pmap_factor", factors);
     over |= show("pmap_joining", joining);
     over |= show("pmap_session", sessions);
     over |= show("pmap_unpack", unpacking);

@@ -13,16 +13,6 @@
 /* No list that is lent has more entries. */
 enum { MOST_ENTRIES = 6 * MOST_BORDERS + 128 };
 
-static void fill(void *list, size_t bytes)
-{
-    uint8_t *to = list;
-    size_t i;
-    for (i = 0; i < bytes; i += 8) {
-        uint64_t number = random_number();
-        memcpy(to + i, &number, bytes - i < 8 ? bytes - i : 8);
-    }
-}
-
 static size_t some_more(void)
 {
     return random_below(2) ? 0 : 1 + random_below(40);
