@@ -87,42 +87,33 @@ module _ (f : Factor) (r : Bool) where
   unfolding allowed
   allowed-unknown e h = h ∙ ap allowed (sym e)
 
-last-fails : (a b c : Bool) → a && b && c && false ≡ false
-last-fails false b c = refl
-last-fails true false c = refl
-last-fails true true false = refl
-last-fails true true true = refl
-
-last-holds : (a : Bool) → a && true ≡ a
-last-holds false = refl
-last-holds true = refl
-
 pub not-is : (a b : Bool) → not a ≡ b → a ≡ not b
 not-is true b e = let z : false ≡ b = e in ap not z
 not-is false b e = let z : true ≡ b = e in ap not z
 
-module _ (x low high : Float) where
-  pub hold-exceeds : lt high low ≡ true → false ≡ allowed (Factor.Held x low high)
+module _ (x low high : Float) (a : Bool) (ha : a ≡ within x) where
+  pub hold-outside : not a ≡ true → false ≡ allowed (Factor.Held x low high)
   unfolding allowed
-  hold-exceeds e = sym (rw e (last-fails (within x) (within low) (within high)))
+  hold-outside n = sym (ap (λ t. t && within low && within high && not (lt high low)) (sym ha ∙ not-is a true n))
 
-  module _ (e : lt high low ≡ false) (a : Bool) (ha : a ≡ within x) where
-    pub hold-outside : not a ≡ true → false ≡ allowed (Factor.Held x low high)
+  module _ (na : not a ≡ false) (b : Bool) (hb : b ≡ within low) where
+    first-holds : allowed (Factor.Held x low high) ≡ (b && within high && not (lt high low))
     unfolding allowed
-    hold-outside n = sym (ap (λ t. t && within low && within high && not (lt high low)) (sym ha ∙ not-is a true n))
+    first-holds = rw (sym ha ∙ not-is a false na, sym hb)
 
-    module _ (na : not a ≡ false) (b : Bool) (hb : b ≡ within low) where
-      first-holds : allowed (Factor.Held x low high) ≡ (b && within high && not (lt high low))
-      unfolding allowed
-      first-holds = rw (sym ha ∙ not-is a false na, sym hb)
+    pub hold-floor : not b ≡ true → false ≡ allowed (Factor.Held x low high)
+    hold-floor n = sym (first-holds ∙ ap (λ t. t && within high && not (lt high low)) (not-is b true n))
 
-      pub hold-floor : not b ≡ true → false ≡ allowed (Factor.Held x low high)
-      hold-floor n = sym (first-holds ∙ ap (λ t. t && within high && not (lt high low)) (not-is b true n))
+    module _ (nb : not b ≡ false) (c : Bool) (hc : c ≡ within high) where
+      both-hold : allowed (Factor.Held x low high) ≡ (c && not (lt high low))
+      both-hold =
+          first-holds ∙ ap (λ t. t && within high && not (lt high low)) (not-is b false nb) ∙ ap (λ t. t && not (lt high low)) (sym hc)
 
-      pub hold-ceiling : not b ≡ false → (c : Bool) → c ≡ within high → c ≡ allowed (Factor.Held x low high)
-      hold-ceiling n c hc =
-          hc ∙ sym (last-holds (within high))
-          ∙ sym (first-holds ∙ ap (λ t. t && within high && not (lt high low)) (not-is b false n) ∙ ap (λ t. within high && not t) e)
+      pub hold-ceiling : not c ≡ true → false ≡ allowed (Factor.Held x low high)
+      hold-ceiling n = sym (both-hold ∙ ap (λ t. t && not (lt high low)) (not-is c true n))
+
+      pub hold-all : not c ≡ false → not (lt high low) ≡ allowed (Factor.Held x low high)
+      hold-all n = sym (both-hold ∙ ap (λ t. t && not (lt high low)) (not-is c false n))
 
 -- ---- what the lists say of an area
 module _ (kinds : List ℕ) (values : List Float) (k : ℕ) where

@@ -80,16 +80,16 @@ fn is_allowed(factor: Factor) -> bool
 fn may_hold(x: f64, low: f64, high: f64) -> bool
     ensures { λ r. ⌜ r ≡ allowed (Factor.Held x low high) ⌝ }
 {
-    if high < low {
-        return false;
-    }
     if !is_within(x) {
         return false;
     }
     if !is_within(low) {
         return false;
     }
-    is_within(high)
+    if !is_within(high) {
+        return false;
+    }
+    !(high < low)
 }
 
 // Whether a number lies between the bounds; what is no number does not.

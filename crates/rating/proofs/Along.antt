@@ -114,7 +114,7 @@ module _ (s kinds : List ℕ) (values : List Float) (k most : ℕ) where
           enough = λ h. absurd (omega (arith, S .room h, S .part .at .below));
         }
 
-    module _ (q j : ℕ) (hq : q ≡ crossing (wordIn s) p) (Q : Position s q) (hj : j ≡ number (seen square (wordIn s)) q) where
+    module _ (q j : ℕ) (Q : Position s q) (hj : j ≡ number (seen square (wordIn s)) q) where
       pub entry-lent : InLists kinds values j
       entry-lent =
           let range = number-cells s (Q .opens) Kind.area q (Q .below) in
@@ -124,7 +124,7 @@ module _ (s kinds : List ℕ) (values : List Float) (k most : ℕ) where
             numbers = omega (arith, range .1, S .part .lists .numbers);
           }
 
-      module _ (f : Factor) (hf : f ≡ factorAt kinds values j) (r' : Running) (hr : r' ≡ added r f) (n : ℕ) (hn : n ≡ stepFrom s p) where
+      module _ (hq : q ≡ crossing (wordIn s) p) (f : Factor) (hf : f ≡ factorAt kinds values j) (r' : Running) (hr : r' ≡ added r f) (n : ℕ) (hn : n ≡ stepFrom s p) where
         lands : areaAt s (crossing (wordIn s) p) ≡ j
         unfolding areaAt
         lands = ap (number (seen square (wordIn s))) (sym hq) ∙ sym hj

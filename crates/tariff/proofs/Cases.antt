@@ -98,6 +98,7 @@ pub record Cases : Type 0 where
   pub short-values : factorOf enclaveMap 2 (2 ∷ 0 ∷ []) (nan ∷ nan ∷ nan ∷ three ∷ nan ∷ []) ≡ refused 18
   pub kind-three : factorOf enclaveMap 2 (3 ∷ 0 ∷ []) (enclosed three) ≡ refused 18
   pub other-area : factorOf enclaveMap 1 (2 ∷ 0 ∷ []) (enclosed nan) ≡ refused 18
+  pub eighteen-first : factorOf enclaveMap 1 (2 ∷ 3 ∷ []) (enclosed three) ≡ refused 18
   pub none-known : factorOf enclaveMap 1 (2 ∷ 2 ∷ []) (enclosed three) ≡ refused 19
   pub only-itself : factorOf stubMap 1 (2 ∷ []) (one ∷ nan ∷ nan ∷ []) ≡ refused 19
   -- 0.6000000000000001 / 3: in the reverse order it would end in 99
@@ -135,6 +136,7 @@ cases =
       short-values = refl;
       kind-three = refl;
       other-area = refl;
+      eighteen-first = refl;
       none-known = refl;
       only-itself = refl;
       walk-order = refl;
