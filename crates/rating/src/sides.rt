@@ -25,9 +25,9 @@ ghost use Rattle.tariff.specs.Tariff.{TariffFits, sumAcross};
 ghost use Rattle.rating.specs.Walks.{Partway, Walks, areaAt};
 
 // Before a map is surveyed, sides are crossed by walking: one for every so many places,
-const WALK: usize = 512;
+const WALK: usize = 256;
 
-// and so many more. On the largest maps that takes at most half the time of the survey.
+// and so many more. On the largest maps that takes up to half the time of the survey.
 const LEAST: usize = 4;
 
 // How far a walk has come: the sum so far, and the next side to be added, unless the walk is over.
