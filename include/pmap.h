@@ -36,7 +36,7 @@
  * map_len and calls_len together, whatever the map is like. docs/SPEED.md has the times measured.
  *
  * Stack. No function recurses or allocates. pmap_session, pmap_neighbours, pmap_factor, pmap_joining and pmap_unpack hold
- * lists of the whole map on the stack: the deepest of them was measured at 33,044 bytes below the caller's frame, every other
+ * lists of the whole map on the stack: the deepest of them was measured at 33,220 bytes below the caller's frame, every other
  * call at up to 544 (libpmap.a of this toolchain, x86-64). A host that leaves PMAP_STACK bytes has nearly twice what any call
  * takes. tests/host measures it again at each run.
  *
@@ -231,7 +231,7 @@ uint8_t pmap_neighbours(const uint8_t *map, size_t map_len, size_t area, uint16_
  * pmap_along from the answer of pmap_area_first, once round, it adds the factor of the area across if that is own or held,
  * a held one as held; it divides the sum by how many were added. An area counts once for each side that it lies across. One
  * that is not known is passed over, and so is the area itself. Each addition and the division are rounded once, so that the
- * bits of the answer are fixed. It is not held to any limit.
+ * bits of the answer are fixed. It is not held to any limit; whatever is answered is a number from 1/128 to 128.
  *
  * What a kind uses, in any area, is from PMAP_LEAST_FACTOR to PMAP_MOST_FACTOR, and the floor of a held factor is not above
  * its ceiling; the factor may lie outside the two. Otherwise the status is 18, whichever area was asked for. What a kind
