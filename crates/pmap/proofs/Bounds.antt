@@ -10,7 +10,7 @@ use Rattle.drawing.specs.Session.{answer, valueOf}
 use Rattle.format.specs.Bytes.{Size, sizeIn}
 use Rattle.format.specs.Open.{openRefusal, afterRefusal, opened, openOf}
 use Rattle.format.proofs.Passes.{opens-passes}
-use Rattle.pmap.specs.Cells.{bordersGiven, pointsGiven}
+use Rattle.giving.specs.Cells.{bordersGiven, pointsGiven}
 
 given-small : (o : ℕ) (z : Size) → (o ≡ 0 → (z .m < 65536) × (z .n < 65536))
     → (valueOf (bordersGiven (afterRefusal o (answer z))) < 65536) × (valueOf (pointsGiven (afterRefusal o (answer z))) < 65536)

@@ -7,7 +7,6 @@
 -- length-small, pair-small, pack-small == the numbers in such a case fit: a length its cell, two borders their bits
 -- returned-read  == what is returned for a case is read as its number and the numbers it carries
 -- pack-returns   == what is returned, and left in the memory lent, is what the contract says
--- length-value, pair-values, unpacked-value == the numbers in an answer that fits
 -- unpack-small   == m fits its cell
 -- unpack-status  == what is returned is the number of unpacking's answer
 -- Assumes nothing.
@@ -17,7 +16,6 @@ use mathlib.Core.Bool.{Bool, true, false, not, _&&_}
 use mathlib.Core.List.{List, [], _∷_, _++_}
 use Prim.Native.Nat.{ℕ, zero, suc, _+_, _*_, _/_, _%_, _<_, _≤_, min, max}
 use native.Mathlib.Omega.{arith}
-use borrow.Author.Needs.{needs}
 use lib.Dec.{leb}
 use lib.ListN.{length, getD, length-append}
 use Rattle.count.specs.Below.{pick}
@@ -41,11 +39,9 @@ use Rattle.format.proofs.Refusals.{pack-crosses}
 use Rattle.packing.specs.declared.answers.Packed.{Packed}
 use Rattle.packing.specs.Answers.{packedMeans, lengthOf, Packs}
 use Rattle.packing.proofs.Outcomes.{declined}
-use Rattle.unpacking.specs.declared.answers.Unpacked.{Unpacked}
 use Rattle.drawing.specs.Laid.{bordersOf}
-use Rattle.unpacking.specs.Answers.{unpackedMeans}
-use Rattle.pmap.specs.Cells.{cellAfter}
-use Rattle.pmap.specs.Desk.{smallerIn, largerIn, PackReturns, returned, Small}
+use Rattle.giving.specs.Cells.{cellAfter}
+use Rattle.giving.specs.Desk.{smallerIn, largerIn, PackReturns, returned, Small}
 use Rattle.pmap.proofs.Given.{cell-same}
 
 -- ---- the bytes of a drawing's map
@@ -199,14 +195,6 @@ module _ (D : Drawing) (work work' out out' : List ℕ) (p : Packed) (P : Packs 
         leaves = P .leaves;
       }
 
--- ---- the numbers in an answer of packing that is small
-module _ (p : Packed) (small : Small p) where
-  pub length-value : (l : ℕ) → p ≡ Packed.Length l → l < 65536
-  length-value l e = rw e at small
-
-  pub pair-values : (a b : ℕ) → p ≡ Packed.Crossing a b → (a < 4096) × (b < 4096)
-  pair-values a b e = rw e at small
-
 -- ---- unpacking
 number-borders : (a : Answer Drawing) → numberOf (bordersOf a) ≡ numberOf a
 unfolding numberOf
@@ -230,9 +218,3 @@ module _ (s : List ℕ) (t k : ℕ) where
 
   pub unpack-status : (r : ℕ) (a : Answer ℕ) → r ≡ numberOf a → a ≡ bordersOf (unpackOf s t k) → r ≡ numberOf (unpackOf s t k)
   unpack-status r a h e = h ∙ ap numberOf e ∙ number-borders (unpackOf s t k)
-
-pub unpacked-value : (a : Unpacked) (m : ℕ) → a ≡ Unpacked.Borders m → valueOf (unpackedMeans a) < 65536 → m < 65536
-unfolding valueOf
-unpacked-value a m e h = rw e at h
-
-pub ruleset desk-values = (length-value, pair-values, unpacked-value, needs)

@@ -1,10 +1,9 @@
 -- Statuses and cells of the calls: a call passes on the answer a of the crates below, which is what the definition gives.
 --
 -- status-same, cell-same == equal answers have one status, and leave one cell
--- borders-value, points-value == m and n in an answer that fits are below 65,536
 -- borders-same, points-same, borders-fit, points-fit == the same of opening, which has two cells
 -- left-status == the place left by a session, or its refusal, has the session's status
--- value-all, call-all, open-all == what the proofs search
+-- call-all, open-all == what the proofs search
 -- Assumes nothing.
 use mathlib.Core.Path.{_≡_, refl, ap, _∙_}
 use mathlib.Core.List.{List}
@@ -13,12 +12,9 @@ use borrow.Author.Needs.{needs}
 use Rattle.drawing.specs.Session.{Answer, answer, refusedWith, numberOf, valueOf, Outcome}
 use Rattle.format.specs.Bytes.{Size}
 use Rattle.format.specs.Open.{openOf}
-use Rattle.opening.specs.declared.answers.Opened.{Opened}
-use Rattle.opening.specs.Answers.{openedMeans}
 use Rattle.running.specs.Runs.{placeLeft}
-use Rattle.pmap.specs.Cells.{cellAfter, bordersGiven, pointsGiven}
+use Rattle.giving.specs.Cells.{cellAfter, bordersGiven, pointsGiven}
 use Rattle.format.proofs.Small.{cross-fits, turn-fits, turn-back-fits, along-fits, point-fits, area-fits, first-fits, size-fits, neighbours-fit, joining-fits}
-use Rattle.opening.proofs.Values.{place-value, point-value, area-value, count-value}
 use Rattle.pmap.proofs.Bounds.{open-small}
 
 module _ {A : Type 0} where
@@ -27,17 +23,6 @@ module _ {A : Type 0} where
 
   pub cell-same : (x old : A) (a b : Answer A) → x ≡ cellAfter a old → a ≡ b → x ≡ cellAfter b old
   cell-same x old a b h e = h ∙ ap (λ y. cellAfter y old) e
-
--- ---- the value of an answer, where the answer fits
-pub borders-value : (a : Opened) (m n : ℕ) → a ≡ Opened.Size m n → valueOf (bordersGiven (openedMeans a)) < 65536 → m < 65536
-unfolding valueOf
-borders-value a m n e h = rw e at h
-
-pub points-value : (a : Opened) (m n : ℕ) → a ≡ Opened.Size m n → valueOf (pointsGiven (openedMeans a)) < 65536 → n < 65536
-unfolding valueOf
-points-value a m n e h = rw e at h
-
-pub ruleset value-all = (place-value, point-value, area-value, count-value, borders-value, points-value, needs)
 
 pub ruleset call-all = (status-same, cell-same, cross-fits, turn-fits, turn-back-fits, along-fits, point-fits, area-fits, first-fits, size-fits, neighbours-fit, joining-fits, needs)
 

@@ -28,7 +28,7 @@ use Rattle.tariff.specs.Maps.{factorOf}
 use Rattle.running.specs.Codes.{callsOf, areCalls, noCall}
 use Rattle.running.specs.Runs.{runOf, ranOf}
 use Rattle.format.specs.Pack.{packedBytes, packRefusal, packCarries, packOf, drawingOf, unpackOf}
-use Rattle.pmap.specs.Cells.{Tells}
+use Rattle.giving.specs.Cells.{Tells}
 
 refused-tells : {A : Type 0} (k : ℕ) (xs : List ℕ) → (k ≡ 0 → ⊥) → Tells {A = A} (refusedWith k xs)
 unfolding numberOf

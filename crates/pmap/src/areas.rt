@@ -1,14 +1,14 @@
 // Calls about areas.
-use crate::cells::give_count;
-use crate::cells::give_factor;
-use crate::cells::give_place;
+use giving::give_count;
+use giving::give_factor;
+use giving::give_place;
 use opening::Area;
 ghost use mathlib.Core.Path.{_≡_};
 ghost use Rattle.drawing.specs.Drawing.{Kind};
 ghost use Rattle.drawing.specs.Session.{numberOf};
 ghost use Rattle.format.specs.Calls.{firstOf, sizeOf, neighboursOf};
 ghost use Rattle.tariff.specs.Maps.{factorOf};
-ghost use Rattle.pmap.specs.Cells.{cellAfter};
+ghost use Rattle.giving.specs.Cells.{cellAfter};
 
 // The area's first place, or 0 if m = 0.
 #[no_mangle]

@@ -18,10 +18,8 @@
 //
 // The functions only pass on what the crates `opening`, `map`, `rating`, `running`, `packing` and `unpacking` answer. The
 // definitions that the contracts cite are those of the crates `format` and `tariff`, with `running`, `packing` and `unpacking`
-// for the lists that are lent to them; specs/Cells.antt says what a cell holds after a call, specs/Desk.antt what pmap_pack
-// returns.
+// for the lists that are lent to them; the crate `giving` says what a cell holds after a call, and what pmap_pack returns.
 mod areas;
-mod cells;
 mod desk;
 mod places;
 mod points;

@@ -1,12 +1,12 @@
 // Calls about a place: the four moves, and its point and area.
-use crate::cells::give_area;
-use crate::cells::give_place;
-use crate::cells::give_point;
+use giving::give_area;
+use giving::give_place;
+use giving::give_point;
 use opening::Place;
 ghost use mathlib.Core.Path.{_≡_};
 ghost use Rattle.drawing.specs.Session.{numberOf};
 ghost use Rattle.format.specs.Calls.{crossOf, turnOf, turnBackOf, alongOf, pointOf, areaOf};
-ghost use Rattle.pmap.specs.Cells.{cellAfter};
+ghost use Rattle.giving.specs.Cells.{cellAfter};
 
 // The place of the other end.
 #[no_mangle]

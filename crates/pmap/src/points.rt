@@ -1,12 +1,12 @@
 // Calls about points.
-use crate::cells::give_count;
-use crate::cells::give_place;
+use giving::give_count;
+use giving::give_place;
 use opening::Point;
 ghost use mathlib.Core.Path.{_≡_};
 ghost use Rattle.drawing.specs.Drawing.{Kind};
 ghost use Rattle.drawing.specs.Session.{numberOf};
 ghost use Rattle.format.specs.Calls.{firstOf, sizeOf, joiningOf};
-ghost use Rattle.pmap.specs.Cells.{cellAfter};
+ghost use Rattle.giving.specs.Cells.{cellAfter};
 
 // The point's first place, or 0 if m = 0.
 #[no_mangle]

@@ -1,10 +1,10 @@
 // A whole session: a list of calls from a first number on, in one call.
-use running::Ran;
+use giving::give_left;
 ghost use mathlib.Core.Path.{_≡_};
 ghost use lib.ListN.{length as size};
 ghost use Rattle.drawing.specs.Session.{numberOf};
-ghost use Rattle.running.specs.Runs.{ranOf, ranMeans, placeLeft, statusesAfter, answersAfter};
-ghost use Rattle.pmap.specs.Cells.{cellAfter};
+ghost use Rattle.running.specs.Runs.{ranOf, placeLeft, statusesAfter, answersAfter};
+ghost use Rattle.giving.specs.Cells.{cellAfter};
 
 // The status and the answer of each call go to the two lists, the place left at the end to a cell.
 #[no_mangle]
@@ -32,17 +32,4 @@ pub extern "C" fn pmap_session(
         running::session(map, first, calls, statuses, answers),
         place,
     )
-}
-
-fn give_left(a: Ran, place: &mut usize) -> u8
-    ensures { λ r. ⌜ r ≡ numberOf (ranMeans a) ⌝ }
-    ensures { λ _. ⌜ now (place .exit) ≡ cellAfter (ranMeans a) (now (place .entry)) ⌝ }
-{
-    match a {
-        Ran::At(p) => {
-            *place = p;
-            0
-        }
-        Ran::Declined(k) => k,
-    }
 }

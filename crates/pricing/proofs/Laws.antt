@@ -3,12 +3,15 @@
 -- held-raised, held-lowered, held-kept == a factor below its floor, above its ceiling, between them
 -- added-own, added-held, added-unknown == one factor more, by its case
 -- plus-is, mean-is           == a sum and a count make a running sum, and a quotient its mean
--- within-low, within-high    == the two bounds
--- allowed-*                  == what is allowed, by the case of the factor
+-- within-not, within-both    == a number below the lower bound, and one that is not
+-- allowed-own, allowed-held, allowed-unknown == what is allowed, by the case of the factor
+-- not-is                     == a test, by what its negation is
+-- hold-outside, hold-floor, hold-ceiling, hold-all == a held factor: it, its floor or its ceiling is outside the bounds, or none is
 -- at-own, at-held, at-unknown == what the lists say of an area, by its kind byte
 -- entry-above, entry-allowed == an entry, by its kind byte
 -- Fitting                    == what the loop over the areas keeps: what the lists say of those before area i + 1 is allowed
--- fitting-*                  == at the first area, from one to the next, and after the last
+-- fitting-start, fitting-on, fitting-end == at the first area, from one to the next, and after the last
+-- fitting-entry, fitting-not == the lists have an entry for the next area; it is not allowed
 -- lists-bytes, lists-numbers == lists of another length
 -- Assumes nothing.
 use mathlib.Core.Path.{_≡_, refl, sym, ap, _∙_}
@@ -18,12 +21,11 @@ use mathlib.Core.List.{List}
 use Prim.Native.Nat.{ℕ, suc, pred, _+_, _-_, _*_, _≤_, _<_}
 use native.Mathlib.Numerals.{add-one}
 use native.Mathlib.Omega.{arith}
-use lib.Dec.{eqb, leb}
 use lib.Ieee.{Float, binary64, nan, ofInt, add, div, lt, le}
 use lib.IntN.{pos}
 use lib.ListN.{length, getD}
 use borrow.Author.Tests.{eq-eqb, ne-eqb, le-leb, lt-leb}
-use Rattle.count.specs.Below.{pick, all}
+use Rattle.count.specs.Below.{all}
 use Rattle.count.proofs.Logic.{same-or-not, true-or-false, true-not-false}
 use Rattle.count.proofs.Below.{all-from, all-has}
 use Rattle.tariff.specs.declared.factor.Factor.{Factor}

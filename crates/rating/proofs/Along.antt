@@ -8,19 +8,17 @@
 -- sum-whole, sum-rest, sum-all, sum-none == the sum, by how far it was walked through the bytes; an empty map has no sides
 -- Assumes nothing.
 use mathlib.Core.Path.{_≡_, refl, sym, ap, _∙_, subst}
-use mathlib.Core.Logic.{inl, inr}
 use mathlib.Core.Bool.{Bool, true, false}
 use mathlib.Core.List.{List, [], _∷_}
-use Prim.Native.Nat.{ℕ, zero, suc, _+_, _-_, _≤_, _<_}
+use Prim.Native.Nat.{ℕ, suc, _+_, _-_, _≤_, _<_}
 use native.Mathlib.Omega.{arith}
 use lib.Dec.{eqb}
 use lib.Ieee.{Float}
-use lib.ListN.{length}
 use borrow.Author.Tests.{eq-eqb, eqb-true}
 use Rattle.count.specs.Below.{count, find}
 use Rattle.count.proofs.Logic.{true-not-false}
 use Rattle.count.proofs.Below.{count-zero, count-none, count-before, find-has, find-not}
-use Rattle.words.specs.Brackets.{Bracket, step, number, first, size}
+use Rattle.words.specs.Brackets.{step, number, first, size}
 use Rattle.words.specs.declared.family.Family.the-variants.{Square as square}
 use Rattle.words.specs.Word.{seen, crossing}
 use Rattle.words.proofs.Step.{inner-step}

@@ -5,12 +5,11 @@
 -- lists-lent, entry-lent == the lists are those of the map, and have an entry for the area
 -- factor-own, factor-held, factor-unknown == its answer, by the case of the factor
 -- Assumes nothing.
-use mathlib.Core.Path.{_≡_, refl, sym, ap, _∙_}
+use mathlib.Core.Path.{_≡_, sym, ap, _∙_}
 use mathlib.Core.Bool.{Bool, true, false, not}
 use mathlib.Core.List.{List}
-use Prim.Native.Nat.{ℕ, _+_, _-_, _≤_, _<_}
+use Prim.Native.Nat.{ℕ, _+_, _-_}
 use native.Mathlib.Omega.{arith}
-use lib.Dec.{ltb}
 use lib.Ieee.{Float}
 use borrow.Author.Tests.{lt-ltb, le-ltb}
 use Rattle.count.specs.Below.{pick}
@@ -18,17 +17,16 @@ use Rattle.count.proofs.Logic.{pick-yes, pick-no}
 use Rattle.drawing.specs.Drawing.{Kind}
 use Rattle.drawing.specs.Session.{Answer, answer, refused}
 use Rattle.format.specs.Bytes.{sizeIn, wordIn}
-use Rattle.format.specs.Calls.{cellsIn, isNumber, landingsIn}
+use Rattle.format.specs.Calls.{cellsIn, landingsIn}
 use Rattle.opening.specs.Checks.{cellRefusal}
 use Rattle.opening.proofs.Passed.{cell-passes, cell-declines, cell-answers}
 use Rattle.tariff.specs.declared.factor.Factor.{Factor}
 use Rattle.tariff.specs.declared.factor.Running.{Running}
-use Rattle.tariff.specs.Tariff.{held, factorAt, TariffFits, tariffFits, hasFactor, mean, worth, sumAcross, rated}
+use Rattle.tariff.specs.Tariff.{held, factorAt, TariffFits, tariffFits, hasFactor, mean, worth, sumAcross, priced, rated}
 use Rattle.tariff.specs.Maps.{factorOf}
 use Rattle.tariff.proofs.Lists.{tariff-decides}
 use Rattle.pricing.specs.Lists.{InLists}
 use Rattle.pricing.proofs.Laws.{not-is}
-use Rattle.rating.specs.Answers.{priced}
 
 -- ---- the mean
 module _ (r across : Running) (e : r ≡ across) where

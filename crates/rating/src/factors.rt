@@ -17,9 +17,9 @@ ghost use Rattle.format.specs.Bytes.{sizeIn, wordIn};
 ghost use Rattle.format.specs.Calls.{cellsIn, landingsIn};
 ghost use Rattle.walking.specs.Positions.{Numbered};
 ghost use Rattle.tariff.specs.declared.factor.Factor.{Factor};
-ghost use Rattle.tariff.specs.Tariff.{TariffFits, sumAcross};
+ghost use Rattle.tariff.specs.Tariff.{TariffFits, sumAcross, priced};
 ghost use Rattle.tariff.specs.Maps.{factorOf};
-ghost use Rattle.rating.specs.Answers.{factorMeans, priced};
+ghost use Rattle.rating.specs.Answers.{factorMeans};
 
 // The factor of an area: 8 to 12, 15, 18, 19, or the number.
 pub fn factor(map: &[u8], area: Area, kinds: &[u8], values: &[f64]) -> FactorAnswer

@@ -12,9 +12,7 @@ use walking::first_at;
 use walking::step_past;
 use words::Family;
 ghost use mathlib.Core.Path.{_≡_};
-ghost use Rattle.words.specs.Brackets.{number};
 ghost use Rattle.words.specs.declared.family.Family.the-variants.{Square as square};
-ghost use Rattle.words.specs.Word.{seen};
 ghost use Rattle.drawing.specs.Drawing.{Kind};
 ghost use Rattle.opening.specs.declared.answers.Cell.{Cell};
 ghost use Rattle.format.specs.Bytes.{sizeIn, bitsA, wordIn};
@@ -27,7 +25,7 @@ ghost use Rattle.rating.specs.Walks.{Partway, Walks, areaAt};
 // Before a map is surveyed, sides are crossed by walking: one for every so many places,
 const WALK: usize = 256;
 
-// and so many more. On the largest maps that takes up to half the time of the survey.
+// and so many more. On the largest maps, on a path at worst, that takes about half the time of the survey.
 const LEAST: usize = 4;
 
 // How far a walk has come: the sum so far, and the next side to be added, unless the walk is over.

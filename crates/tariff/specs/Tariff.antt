@@ -18,6 +18,7 @@
 -- sumAcross kinds values js == the sum of the known factors of the areas js
 -- hasFactor f r      == passes 19: the factor f is known, or the sum r across the sides has at least one in it
 -- worth f r          == the factor that an area is given: its own, held, or the mean
+-- priced f r         == 19, or that
 -- rated v kinds values k js == 18, 19, or the factor of area k of v, with the areas js across its sides
 -- Assumes nothing.
 use mathlib.Core.Path.{_≡_}
@@ -120,6 +121,10 @@ worth (Factor.Own x) r = x
 worth (Factor.Held x low high) r = held x low high
 worth Factor.Unknown r = mean r
 
+unfoldable pub priced : Factor → Running → Answer Float
+unfolding hasFactor worth
+priced f r = pick (hasFactor f r) (answer (worth f r)) (refused 19)
+
 -- 02: "begin at 0.0"
 unfoldable pub sumAcross : List ℕ → List Float → List ℕ → Running
 unfolding summed factorAt
@@ -127,10 +132,5 @@ sumAcross kinds values js = summed (factorAt kinds values) js begun
 
 -- 02: "18 first"
 unfoldable pub rated : ℕ → List ℕ → List Float → ℕ → List ℕ → Answer Float
-unfolding tariffFits hasFactor worth factorAt sumAcross
-rated v kinds values k js =
-    pick (tariffFits v kinds values)
-    (pick (hasFactor (factorAt kinds values k) (sumAcross kinds values js))
-    (answer (worth (factorAt kinds values k) (sumAcross kinds values js)))
-    (refused 19))
-    (refused 18)
+unfolding tariffFits priced factorAt sumAcross
+rated v kinds values k js = pick (tariffFits v kinds values) (priced (factorAt kinds values k) (sumAcross kinds values js)) (refused 18)

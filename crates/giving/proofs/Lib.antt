@@ -1,0 +1,2 @@
+-- Statuses and cells for a C host: laws.
+pub mod Values

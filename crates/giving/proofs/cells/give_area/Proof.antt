@@ -1,0 +1,27 @@
+-- `giving::cells::give_area` meets its contract. Assumes nothing.
+use borrow.Author.Needs.{needs}
+use Rattle.drawing.specs.Session.{numberOf}
+use Rattle.giving.specs.Cells.{cellAfter}
+use Rattle.giving.proofs.Values.{value-all}
+use Rattle.giving.proofs.cells.give_area.Statement.{statement}
+use Rattle.giving.proofs.cells.give_area.Tie as tie
+
+enum-known-a : tie.Need-enum-known-a
+enum-known-a c = search needs
+
+cast-out : tie.Need-cast-out
+cast-out c = search value-all
+
+enum-known-a-2 : tie.Need-enum-known-a-2
+enum-known-a-2 c = search needs
+
+returns : tie.Need-returns
+unfolding numberOf cellAfter
+returns c = search needs
+
+returns-2 : tie.Need-returns-2
+unfolding numberOf cellAfter
+returns-2 c = search needs
+
+pub give-area-spec : {M : Type 1} → statement M
+give-area-spec = tie.close (tie.spec enum-known-a cast-out enum-known-a-2 returns returns-2)

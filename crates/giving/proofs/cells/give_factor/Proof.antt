@@ -1,0 +1,23 @@
+-- `giving::cells::give_factor` meets its contract. Assumes nothing.
+use borrow.Author.Needs.{needs}
+use Rattle.drawing.specs.Session.{numberOf}
+use Rattle.giving.specs.Cells.{cellAfter}
+use Rattle.giving.proofs.cells.give_factor.Statement.{statement}
+use Rattle.giving.proofs.cells.give_factor.Tie as tie
+
+enum-known-a : tie.Need-enum-known-a
+enum-known-a c = search needs
+
+enum-known-a-2 : tie.Need-enum-known-a-2
+enum-known-a-2 c = search needs
+
+returns : tie.Need-returns
+unfolding numberOf cellAfter
+returns c = search needs
+
+returns-2 : tie.Need-returns-2
+unfolding numberOf cellAfter
+returns-2 c = search needs
+
+pub give-factor-spec : {M : Type 1} → statement M
+give-factor-spec = tie.close (tie.spec enum-known-a enum-known-a-2 returns returns-2)

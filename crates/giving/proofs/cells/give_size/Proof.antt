@@ -1,0 +1,30 @@
+-- `giving::cells::give_size` meets its contract. Assumes nothing.
+use borrow.Author.Needs.{needs}
+use Rattle.drawing.specs.Session.{numberOf}
+use Rattle.giving.specs.Cells.{cellAfter}
+use Rattle.giving.proofs.Values.{value-all}
+use Rattle.giving.proofs.cells.give_size.Statement.{statement}
+use Rattle.giving.proofs.cells.give_size.Tie as tie
+
+enum-known-a : tie.Need-enum-known-a
+enum-known-a c = search needs
+
+cast-m : tie.Need-cast-m
+cast-m c = search value-all
+
+cast-n : tie.Need-cast-n
+cast-n c = search value-all
+
+enum-known-a-2 : tie.Need-enum-known-a-2
+enum-known-a-2 c = search needs
+
+returns : tie.Need-returns
+unfolding numberOf cellAfter
+returns c = (search needs, (search needs, search needs))
+
+returns-2 : tie.Need-returns-2
+unfolding numberOf cellAfter
+returns-2 c = (search needs, (search needs, search needs))
+
+pub give-size-spec : {M : Type 1} → statement M
+give-size-spec = tie.close (tie.spec enum-known-a cast-m cast-n enum-known-a-2 returns returns-2)

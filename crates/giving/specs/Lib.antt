@@ -1,0 +1,3 @@
+-- Statuses and cells for a C host: definitions.
+pub mod Cells
+pub mod Desk
