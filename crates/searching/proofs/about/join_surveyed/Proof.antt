@@ -1,8 +1,8 @@
--- `map::search::join_surveyed` meets its contract. Assumes nothing.
+-- `searching::about::join_surveyed` meets its contract. Assumes nothing.
 use Rattle.surveying.proofs.Laws.{mates-long, numbers-long, early-full}
 use borrow.Author.Needs.{needs}
-use Rattle.map.proofs.search.join_surveyed.Statement.{statement}
-use Rattle.map.proofs.search.join_surveyed.Tie as tie
+use Rattle.searching.proofs.about.join_surveyed.Statement.{statement}
+use Rattle.searching.proofs.about.join_surveyed.Tie as tie
 
 survey-requires : tie.Need-survey-requires
 survey-requires c κs = search needs

@@ -1,8 +1,8 @@
--- `map::search::join_from` meets its contract. The loop keeps `Joining`: the rest of the search answers what the whole search answers. Assumes nothing.
-use Rattle.map.proofs.Joins.{Joining, joining-start, joining-on, joining-here, joining-back, joining-more}
+-- `searching::about::join_from` meets its contract. The loop keeps `Joining`: the rest of the search answers what the whole search answers. Assumes nothing.
+use Rattle.searching.proofs.Joins.{Joining, joining-start, joining-on, joining-here, joining-back, joining-more}
 use borrow.Author.Needs.{needs}
-use Rattle.map.proofs.search.join_from.Statement.{statement}
-use Rattle.map.proofs.search.join_from.Tie as tie
+use Rattle.searching.proofs.about.join_from.Statement.{statement}
+use Rattle.searching.proofs.about.join_from.Tie as tie
 
 abbrev Inv-loop : tie.InvT-loop
 Inv-loop map mates points most f n to p₀ left₀ p left = Joining map to f most p left

@@ -1,8 +1,8 @@
--- `map::search::join_at` meets its contract. Assumes nothing.
-use Rattle.map.proofs.Joins.{join-empty, join-start, join-full}
+-- `searching::about::join_at` meets its contract. Assumes nothing.
+use Rattle.searching.proofs.Joins.{join-empty, join-start, join-full}
 use borrow.Author.Needs.{needs}
-use Rattle.map.proofs.search.join_at.Statement.{statement}
-use Rattle.map.proofs.search.join_at.Tie as tie
+use Rattle.searching.proofs.about.join_at.Statement.{statement}
+use Rattle.searching.proofs.about.join_at.Tie as tie
 
 bits-a-requires : tie.Need-bits-a-requires
 bits-a-requires c κs = search needs

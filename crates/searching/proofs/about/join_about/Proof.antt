@@ -1,8 +1,8 @@
--- `map::search::join_about` meets its contract. Assumes nothing.
+-- `searching::about::join_about` meets its contract. Assumes nothing.
 use Rattle.surveying.proofs.Laws.{early-is}
 use borrow.Author.Needs.{needs}
-use Rattle.map.proofs.search.join_about.Statement.{statement}
-use Rattle.map.proofs.search.join_about.Tie as tie
+use Rattle.searching.proofs.about.join_about.Statement.{statement}
+use Rattle.searching.proofs.about.join_about.Tie as tie
 
 bits-a-requires : tie.Need-bits-a-requires
 bits-a-requires c κs = search needs

@@ -1,0 +1,2 @@
+-- The joining border of two points: laws.
+pub mod Joins
