@@ -1,7 +1,8 @@
 -- A status of 0 is success: no call declines with the number 0.
 --
 -- own-tells  == so of a call's own answer after its checks
--- move-tells, first-tells, size-tells, joining-tells, factor-tells, open-tells, session-tells, pack-tells, unpack-tells == so of every call
+-- move-tells, first-tells, size-tells, neighbours-tells, factor-tells, joining-tells, open-tells, session-tells, pack-tells,
+-- unpack-tells == so of every call
 -- Assumes nothing.
 use mathlib.Core.Path.{_≡_, refl}
 use mathlib.Core.Bool.{Bool, true, false, _&&_}
@@ -20,7 +21,7 @@ use Rattle.drawing.specs.Session.{Answer, answer, refusedWith, refused, numberO
 use Rattle.drawing.specs.Book.{noSuch}
 use Rattle.format.specs.Bytes.{sizeIn, wordIn}
 use Rattle.format.specs.Open.{openRefusal, afterRefusalWith, afterRefusal, opened, openOf}
-use Rattle.format.specs.Calls.{moveIn, atPlace, mapAnswer, mapSession, cellsIn, isNumber, firstIn, firstOf, placesIn, sizeOf, landingsIn, joinIn, joiningOf}
+use Rattle.format.specs.Calls.{moveIn, atPlace, mapAnswer, mapSession, cellsIn, isNumber, firstIn, firstOf, placesIn, sizeOf, neighboursIn, neighboursOf, landingsIn, joinIn, joiningOf}
 use Rattle.tariff.specs.declared.factor.Factor.{Factor}
 use Rattle.tariff.specs.declared.factor.Running.{Running}
 use Rattle.tariff.specs.Tariff.{factorAt, tariffFits, hasFactor, worth, sumAcross, rated}
@@ -78,6 +79,10 @@ module _ (s : List ℕ) where
   pub size-tells : (c : Kind) (k : ℕ) → Tells (sizeOf s c k)
   unfolding sizeOf opened
   size-tells c k = own-cell c k (placesIn (wordIn s) c k)
+
+  pub neighbours-tells : (k : ℕ) → Tells (neighboursOf s k)
+  unfolding neighboursOf opened
+  neighbours-tells k = own-cell Kind.area k (neighboursIn (wordIn s) (cellsIn (sizeIn s) Kind.area) k)
 
   pub joining-tells : (u v : ℕ) → Tells (joiningOf s u v)
   unfolding joiningOf opened

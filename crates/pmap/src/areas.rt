@@ -47,7 +47,8 @@ pub extern "C" fn pmap_factor(
     out: &mut f64,
 ) -> u8
     ensures { λ r. ⌜ r ≡ numberOf (factorOf (now (map .entry)) area (now (kinds .entry)) (now (values .entry))) ⌝ }
-    ensures { λ _. ⌜ now (out .exit) ≡ cellAfter (factorOf (now (map .entry)) area (now (kinds .entry)) (now (values .entry))) (now (out .entry)) ⌝ }
+    ensures { λ _. ⌜ now (out .exit)
+        ≡ cellAfter (factorOf (now (map .entry)) area (now (kinds .entry)) (now (values .entry))) (now (out .entry)) ⌝ }
 {
     give_factor(rating::factor(map, Area(area), kinds, values), out)
 }

@@ -39,11 +39,7 @@ use Rattle.tariff.specs.Tariff.{factorAt, TariffFits, begun, added, summed, sum
 use Rattle.tariff.proofs.Lists.{added-most}
 use Rattle.pricing.specs.Lists.{InLists}
 use Rattle.rating.specs.declared.sides.Walked.{Walked}
-use Rattle.rating.specs.Walks.{areaAt, sidesLeft, Partway, Walks}
-
--- the areas across the sides from p on, so many of them
-abbrev acrossFrom : List ℕ → ℕ → ℕ → List ℕ
-acrossFrom s d p = landings (areaAt s) (crossing (wordIn s)) (step (seen square (wordIn s)) (bitsA (sizeIn s))) d p
+use Rattle.rating.specs.Walks.{areaAt, sidesLeft, acrossFrom, Partway, Walks}
 
 abbrev stepFrom : List ℕ → ℕ → ℕ
 stepFrom s p = step (seen square (wordIn s)) (bitsA (sizeIn s)) p
@@ -52,7 +48,8 @@ stepFrom s p = step (seen square (wordIn s)) (bitsA (sizeIn s)) p
 abbrev sidesBefore : List ℕ → ℕ → ℕ → ℕ
 sidesBefore s k p = count (λ q. eqb (areaAt s q) k) p
 
-one-more : (s : List ℕ) (d p : ℕ) → acrossFrom s (suc d) p ≡ areaAt s (crossing (wordIn s) p) ∷ acrossFrom s d (stepFrom s p)
+one-more : (s : List ℕ) (d p : ℕ)
+    → acrossFrom s (suc d) p ≡ areaAt s (crossing (wordIn s) p) ∷ acrossFrom s d (stepFrom s p)
 unfolding landings
 one-more s d p = refl
 
@@ -122,7 +119,8 @@ module _ (s kinds : List ℕ) (values : List Float) (k most : ℕ) where
             numbers = omega (arith, range .1, S .part .lists .numbers);
           }
 
-      module _ (hq : q ≡ crossing (wordIn s) p) (f : Factor) (hf : f ≡ factorAt kinds values j) (r' : Running) (hr : r' ≡ added r f) (n : ℕ) (hn : n ≡ stepFrom s p) where
+      module _ (hq : q ≡ crossing (wordIn s) p) (f : Factor) (hf : f ≡ factorAt kinds values j) (r' : Running) (hr : r' ≡ added r f)
+          (n : ℕ) (hn : n ≡ stepFrom s p) where
         lands : areaAt s (crossing (wordIn s) p) ≡ j
         unfolding areaAt
         lands = ap (number (seen square (wordIn s))) (sym hq) ∙ sym hj
@@ -173,7 +171,8 @@ module _ (s kinds : List ℕ) (values : List Float) (k most : ℕ) where
             }
 
 -- ---- where the walk begins, and what it comes to
-landings-are : (s : List ℕ) (k : ℕ) → acrossFrom s (placesIn (wordIn s) Kind.area k) (first (seen square (wordIn s)) (bitsA (sizeIn s)) k) ≡ landingsIn (wordIn s) k
+landings-are : (s : List ℕ) (k : ℕ)
+    → acrossFrom s (placesIn (wordIn s) Kind.area k) (first (seen square (wordIn s)) (bitsA (sizeIn s)) k) ≡ landingsIn (wordIn s) k
 unfolding landingsIn areaAt wordIn
 landings-are s k = refl
 
@@ -185,7 +184,8 @@ no-sides : (s : List ℕ) (k : ℕ) → bitsA (sizeIn s) ≡ 0 → placesIn (wor
 unfolding placesIn size wordIn
 no-sides s k z = ap (count (λ q. eqb (number (seen square (wordIn s)) q) k)) z ∙ count-zero (λ q. eqb (number (seen square (wordIn s)) q) k)
 
-pub partway-again : (s kinds : List ℕ) (values : List Float) (k p : ℕ) (r : Running) → Partway s kinds values k p r → Partway s kinds values (areaAt s p) p r
+pub partway-again : (s kinds : List ℕ) (values : List Float) (k p : ℕ) (r : Running)
+    → Partway s kinds values k p r → Partway s kinds values (areaAt s p) p r
 partway-again s kinds values k p r P = subst (λ x. Partway s kinds values x p r) (sym (P .of)) P
 
 module _ (s kinds : List ℕ) (values : List Float) (a : Area) (N : Numbered s (Cell.Area a))

@@ -42,7 +42,8 @@ pub fn factor(map: &[u8], area: Area, kinds: &[u8], values: &[f64]) -> FactorAns
 // The mean across the sides of an area whose factor is not known; 19 where no known one is across.
 fn mean_across(map: &[u8], area: Area, kinds: &[u8], values: &[f64]) -> FactorAnswer
     requires { ⌜ Numbered (now map) (Cell.Area area) × TariffFits (cellsIn (sizeIn (now map)) Kind.area) (now kinds) (now values) ⌝ }
-    ensures { λ r. ⌜ factorMeans r ≡ priced Factor.Unknown (sumAcross (now (kinds .entry)) (now (values .entry)) (landingsIn (wordIn (now (map .entry))) (area .0))) ⌝ }
+    ensures { λ r. ⌜ factorMeans r ≡ priced Factor.Unknown
+        (sumAcross (now (kinds .entry)) (now (values .entry)) (landingsIn (wordIn (now (map .entry))) (area .0))) ⌝ }
 {
     let running = sum_across(map, area, kinds, values);
     if running.count == 0 {

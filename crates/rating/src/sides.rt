@@ -74,7 +74,8 @@ fn sum_surveyed(
     running: Running,
 ) -> Running
     requires { ⌜ Partway (now map) (now kinds) (now values) (areaAt (now map) next) next running × (n ≡ bitsA (sizeIn (now map))) ⌝ }
-    ensures { λ r. ⌜ r ≡ sumAcross (now (kinds .entry)) (now (values .entry)) (landingsIn (wordIn (now (map .entry))) (areaAt (now (map .entry)) next)) ⌝ }
+    ensures { λ r. ⌜ r ≡ sumAcross (now (kinds .entry)) (now (values .entry))
+        (landingsIn (wordIn (now (map .entry))) (areaAt (now (map .entry)) next)) ⌝ }
 {
     let mut mates = [0u16; 4096];
     let mut areas = [0u16; 4096];
@@ -96,7 +97,8 @@ fn sum_from(
     next: usize,
     running: Running,
 ) -> Walked
-    requires { ⌜ Partway (now map) (now kinds) (now values) (areaAt (now map) next) next running × Mates (now map) (now mates) × Numbers square (now map) (now areas) ⌝ }
+    requires { ⌜ Partway (now map) (now kinds) (now values) (areaAt (now map) next) next running
+        × Mates (now map) (now mates) × Numbers square (now map) (now areas) ⌝ }
     ensures { λ r. ⌜ Walks (now (map .entry)) (now (kinds .entry)) (now (values .entry)) (areaAt (now (map .entry)) next) most r ⌝ }
 {
     let mut p = next;

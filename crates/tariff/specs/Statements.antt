@@ -50,7 +50,8 @@ uses b f = pick (eqb b 0) (eqb f 0) (eqb b 1)
 
 pub record SameUsed (kinds : List ℕ) (values others : List Float) : Type 0 where
   pub long : length others ≡ length values
-  pub used : (i f : ℕ) → i < length kinds → f < 3 → uses (getD kinds i 0) f ≡ true → getD others (3 * i + f) nan ≡ getD values (3 * i + f) nan
+  pub used : (i f : ℕ) → i < length kinds → f < 3 → uses (getD kinds i 0) f ≡ true
+      → getD others (3 * i + f) nan ≡ getD values (3 * i + f) nan
 
 -- Refusals come in order, and each exactly where it applies (`order`). An own factor is answered as it is, a held one lies between
 -- its floor and its ceiling and is itself where it lies there already, one not known is the mean. Every answer is a number between

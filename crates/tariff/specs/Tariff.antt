@@ -11,7 +11,7 @@
 -- factorAt kinds values k == the factor of area k
 -- allowed f          == the numbers that f uses are within the bounds, and no floor exceeds its ceiling
 -- TariffFits v kinds values, tariffFits == passes 18: the lists are those of v areas, and say of each what is allowed
--- Running            == a sum, and how many factors are in it
+-- Running            == a sum, and how many factors are in it; begun: none yet; plus r x: r with the number x
 -- added r f          == r with one factor more, if it is known
 -- summed t js r      == r with those of the areas js, in order; t is the factor of an area
 -- mean r             == the sum divided by the count
@@ -82,6 +82,7 @@ tariffFits v kinds values =
     && eqb (length values) (3 * v)
     && all (λ i. leb (getD kinds i 0) 2 && allowed (factorAt kinds values (suc i))) v
 
+-- 02: "begin at 0.0"
 abbrev pub begun : Running
 begun = record { sum = ofBits binary64 0; count = 0 }
 
@@ -113,7 +114,7 @@ hasFactor (Factor.Own x) r = true
 hasFactor (Factor.Held x low high) r = true
 hasFactor Factor.Unknown r = ltb 0 (r .count)
 
--- 02: "An area's factor is its own, or held between a floor and a ceiling, or not known. One not known is the mean across its
+-- 02: "An area's factor is its own, or held between a floor and a ceiling, or not known. .. One not known is the mean across its
 -- sides"
 unfoldable pub worth : Factor → Running → Float
 unfolding held mean
@@ -125,7 +126,7 @@ unfoldable pub priced : Factor → Running → Answer Float
 unfolding hasFactor worth
 priced f r = pick (hasFactor f r) (answer (worth f r)) (refused 19)
 
--- 02: "begin at 0.0"
+-- 02: "begin at 0.0, add the known factors"
 unfoldable pub sumAcross : List ℕ → List Float → List ℕ → Running
 unfolding summed factorAt
 sumAcross kinds values js = summed (factorAt kinds values) js begun
