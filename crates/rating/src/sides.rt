@@ -22,11 +22,9 @@ ghost use Rattle.walking.specs.Positions.{Numbered};
 ghost use Rattle.tariff.specs.Tariff.{TariffFits, sumAcross};
 ghost use Rattle.rating.specs.Walks.{Partway, Walks, areaAt};
 
-// Before a map is surveyed, sides are crossed by walking: one for every so many places,
-const WALK: usize = 256;
-
-// and so many more. On the largest maps, on a path at worst, that takes about half the time of the survey.
-const LEAST: usize = 4;
+// Before a map is surveyed, so many sides are crossed by walking. On the largest maps, on a path at worst, that takes about half the
+// time of the survey.
+const FEW: usize = 16;
 
 // How far a walk has come: the sum so far, and the next side to be added, unless the walk is over.
 pub struct Walked {
@@ -48,16 +46,7 @@ pub fn sum_across(map: &[u8], area: Area, kinds: &[u8], values: &[f64]) -> Runni
     }
     let none = [0u16; 0];
     let next = first_at(map, Cell::Area(area));
-    let walked = sum_from(
-        map,
-        &none,
-        &none,
-        kinds,
-        values,
-        n / WALK + LEAST,
-        next,
-        running,
-    );
+    let walked = sum_from(map, &none, &none, kinds, values, FEW, next, running);
     if walked.over {
         return walked.running;
     }

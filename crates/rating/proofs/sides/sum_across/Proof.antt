@@ -19,9 +19,6 @@ slice-aggregate-sum-from c = search needs
 slice-aggregate-sum-from-2 : tie.Need-slice-aggregate-sum-from-2
 slice-aggregate-sum-from-2 c = search needs
 
-add-sum-from : tie.Need-add-sum-from
-add-sum-from c = search needs
-
 sum-from-requires : tie.Need-sum-from-requires
 sum-from-requires c κs = (search partway-first, search needs, search needs)
 
@@ -43,7 +40,6 @@ sum-across-spec =
     first-at-requires
     slice-aggregate-sum-from
     slice-aggregate-sum-from-2
-    add-sum-from
     sum-from-requires
     returns-2
     sum-surveyed-requires
