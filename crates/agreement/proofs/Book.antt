@@ -5,7 +5,6 @@
 -- book-call      == the answer of a call at any number, refusals included
 -- session-same   == sessions are alike where all answers are
 -- book-session   == so is every session
--- first-below    == the first place of a number that some place has stands in the word
 -- lands-agree    == the point (area) across a place
 -- join-agrees    == the search for a joining border
 -- numbers-agree  == the book has these numbers and no others
@@ -20,14 +19,14 @@ use Prim.Native.Nat.{ℕ, zero, suc, pred, _+_, _<_, _≤_}
 use native.Mathlib.Omega.{arith}
 use lib.Dec.{eqb, ltb, leb}
 use borrow.Author.Tests.{eqb-true, eq-eqb, ltb-true, leb-true}
-use Rattle.count.specs.Below.{pick, find}
-use Rattle.count.proofs.Logic.{lt-or-ge, true-or-false, both-left, both-right, bool-same}
-use Rattle.count.proofs.Below.{find-not, count-none}
-use Rattle.words.specs.Brackets.{Bracket, step, number, first, size}
+use Rattle.count.specs.Below.{pick}
+use Rattle.count.proofs.Logic.{true-or-false, both-left, both-right, bool-same}
+use Rattle.words.specs.Brackets.{Bracket, step, number, first}
 use Rattle.words.specs.declared.family.Family.the-variants.{Round as round, Square as square}
-use Rattle.words.specs.Word.{Word, seen, crossing}
+use Rattle.words.specs.Word.{seen, crossing}
 use Rattle.words.proofs.Step.{step-below}
 use Rattle.words.proofs.Numbers.{openings}
+use Rattle.words.proofs.Sizes.{first-below}
 use Rattle.drawing.specs.Drawing.{Drawing, Kind, borders, ends, other, turn, around, cells, endAt, positionOf}
 use Rattle.drawing.specs.Session.{Answer, answer, refused, Call, placeAfter, session}
 use Rattle.drawing.specs.Book.{placeOf, numberAt, answerAt, bookAnswer, bookSession, noSuch, hasNumber, firstPosition, endsOn, joinFrom}
@@ -35,7 +34,7 @@ use Rattle.drawing.specs.Book.{bookFirst, bookSize, bookNeighbours, bookLanding
 use Rattle.drawing.specs.Neighbours.{landings}
 use Rattle.drawing.proofs.Neighbours.{neighbours-same, landings-same}
 use Rattle.format.specs.Pack.{wordOf}
-use Rattle.format.specs.Calls.{familyOfKind, moveIn, atPlace, firstIn, placesIn, neighboursIn, landingsIn, joinIn}
+use Rattle.format.specs.Calls.{moveIn, atPlace, firstIn, placesIn, neighboursIn, landingsIn, joinIn}
 use Rattle.agreement.specs.Toured.{Toured}
 use Rattle.agreement.proofs.Positions.{partner, end-other, partner-below}
 use Rattle.agreement.proofs.Nesting.{word-balanced, cross-mate}
@@ -58,16 +57,6 @@ no-borders D =
     bool-same (eqb (borders D) 0) (eqb (ends D) 0)
     (λ t. let z : borders D ≡ 0 = eqb-true (borders D) 0 t in eq-eqb (ends D) 0 (omega arith))
     (λ t. let z : ends D ≡ 0 = eqb-true (ends D) 0 t in eq-eqb (borders D) 0 (omega arith))
-
--- a search that ends past the word has found the number nowhere
-pub first-below : (w : Word) (c : Kind) (k : ℕ) → 0 < placesIn w c k → first (seen (familyOfKind c) w) (w .size) k < w .size
-unfolding placesIn size first
-first-below w c k some =
-    let has : ℕ → Bool = λ p. eqb (number (seen (familyOfKind c) w) p) k in
-    elim (lt-or-ge (find has (w .size)) (w .size)) [
-      | inl l ↦ l
-      | inr g ↦ absurd (omega (arith, count-none has (w .size) (λ p l. find-not has (w .size) p (omega arith))))
-    ]
 
 module _ {D : Drawing} (T : Toured D) where
   pub answer-agrees : (c : Call) (p : ℕ) → p < ends D → answerAt D c (endAt D p) ≡ moveIn (wordOf D) c p
@@ -118,8 +107,8 @@ module _ {D : Drawing} (T : Toured D) where
 
   -- the word has a letter for each end
   first-end : (c : Kind) (k : ℕ) → 0 < placesIn (wordOf D) c k → first (cellWord D c) (ends D) k < ends D
-  unfolding wordOf
-  first-end c k some = first-below (wordOf D) c k some
+  unfolding wordOf placesIn
+  first-end c k some = first-below (cellWord D c) (ends D) k some
 
   -- from the first place of point u once round; where there is no such point nothing is looked at
   join-round : (u v : ℕ) → joinFrom D v (endsOn D Kind.point u) (endAt D (firstPosition D Kind.point u))

@@ -1,6 +1,7 @@
 -- Tests that decide propositions: the comparisons of numbers, and tests made of tests.
 --
 -- decides-eq, decides-le, decides-lt  == eqb, leb and ltb decide ≡, ≤ and <
+-- decides-true       == a test decides that it holds
 -- decides-not        == the negation of a test decides the negation
 -- decides-both       == s && t decides the pair
 -- decides-all        == a test of each x < n decides "for every x < n"
@@ -16,6 +17,9 @@ use borrow.Author.Tests.{eqb-true, leb-true, ltb-true, eq-eqb, le-leb, lt-ltb, n
 use Rattle.count.specs.Below.{Decides, all, any}
 use Rattle.count.proofs.Logic.{true-not-false, both, both-left, both-right}
 use Rattle.count.proofs.Search.{all-has, all-from, any-has, any-from}
+
+pub decides-true : (t : Bool) → Decides t (t ≡ true)
+decides-true t = record { sound = λ e. e; complete = λ e. e }
 
 pub decides-eq : (a b : ℕ) → Decides (eqb a b) (a ≡ b)
 decides-eq a b = record { sound = eqb-true a b; complete = eq-eqb a b }

@@ -27,8 +27,8 @@ use Rattle.drawing.specs.Session.{answer, refused, Call}
 use Rattle.drawing.specs.Neighbours.{landings}
 use Rattle.drawing.proofs.Neighbours.{neighbours-same, landings-same}
 use Rattle.words.proofs.Crossing.{crossing-below}
+use Rattle.words.proofs.Sizes.{first-below}
 use Rattle.format.specs.Calls.{familyOfKind, moveIn, atPlace, firstIn, placesIn, neighboursIn, landingsIn, joinIn}
-use Rattle.agreement.proofs.Book.{first-below}
 
 pub record Alike (v w : Word) : Type 0 where
   pub sizes : v .size ≡ w .size
@@ -144,14 +144,14 @@ module _ (n : ℕ) (f g : ℕ → Letter) (same : (p : ℕ) → p < n → f p �
       (λ p l. l) (λ p l. l) (λ p l. refl) alike-area (lands-same square) v k
 
   landings-alike : (k : ℕ) → landingsIn (word n f) k ≡ landingsIn (word n g) k
-  unfolding landingsIn
+  unfolding landingsIn placesIn
   landings-alike k =
       let b : ℕ → Bracket = seen square (word n f) in
       let c : ℕ → Bracket = seen square (word n g) in
       ap₂ (λ (d p : ℕ). landings (number b) (crossing (word n f)) (step b n) d p) (places-alike n f g same Kind.area k)
       (first-same b c n (seen-same n f g same square) k)
       ∙ landings-same (number b) (crossing (word n f)) (step b n) (number c) (crossing (word n g)) (step c n) (λ p. p) n
-      (lands-same square) (moves-same square) (moves-below square) (placesIn (word n g) Kind.area k) (first c n k) (first-below (word n g) Kind.area k)
+      (lands-same square) (moves-same square) (moves-below square) (placesIn (word n g) Kind.area k) (first c n k) (first-below c n k)
 
 -- any two words that are alike are words of one size
 module _ (P : Word → Word → Type 0) where
@@ -194,6 +194,7 @@ alike-lowest v w a K k =
 pub alike-joining : (v w : Word) → Alike v w → ((K : Family) → Balanced (seen K w) (w .size)) → (to u : ℕ)
     → joinIn v to (placesIn v Kind.point u) (first (seen round v) (v .size) u)
     ≡ joinIn w to (placesIn w Kind.point u) (first (seen round w) (w .size) u)
+unfolding placesIn
 alike-joining v w a nested to u =
     ap₂ (λ (k q : ℕ). joinIn v to k q) (alike-places v w a Kind.point u) (alike-lowest v w a round u)
-    ∙ alike-join v w a nested to (placesIn w Kind.point u) (first (seen round w) (w .size) u) (first-below w Kind.point u)
+    ∙ alike-join v w a nested to (placesIn w Kind.point u) (first (seen round w) (w .size) u) (first-below (seen round w) (w .size) u)

@@ -4,6 +4,7 @@ pub mod Bits
 pub mod Strings
 pub mod Parts
 pub mod Chain
+pub mod After
 pub mod Passes
 pub mod Refusals
 pub mod Encode

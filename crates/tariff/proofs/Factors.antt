@@ -106,6 +106,10 @@ module _ (s : List ℕ) (k : ℕ) (kinds : List ℕ) (values : List Float) where
         is = P .same;
       }
 
+  factor-only : (y : Float) → factorOf s k kinds values ≡ answer y → y ≡ factorIn s k kinds values
+  unfolding factorIn
+  factor-only y e = sym (factor-answered y e .is)
+
   answer-near : (y : Float) → factorOf s k kinds values ≡ answer y → Near 1 y
   unfolding sumAcross
   answer-near y e =
@@ -147,6 +151,7 @@ pub factored : (s : List ℕ) (k : ℕ) (kinds : List ℕ) (values : List Float)
 factored s k kinds values =
     record {
       order = factor-order s k kinds values;
+      only = factor-only s k kinds values;
       own = factor-own s k kinds values;
       between = factor-between s k kinds values;
       inside = factor-inside s k kinds values;

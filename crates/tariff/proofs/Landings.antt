@@ -2,29 +2,25 @@
 --
 -- landings-length == one for each side
 -- landings-each   == what holds of the area across every side holds of each of them
--- first-below     == an area that has places has a first one
 -- landings-long   == in a word there are as many as the area has places
 -- landings-in     == landings-each, in a word that is balanced in both families
 -- landings-areas  == on a map that opens they are numbers of its areas
 -- landings-few    == and no more than it has places
 -- Assumes nothing.
 use mathlib.Core.Path.{_≡_, refl, sym, ap, subst}
-use mathlib.Core.Logic.{inl, inr}
-use mathlib.Core.Bool.{Bool}
 use mathlib.Core.List.{List}
 use Prim.Native.Nat.{ℕ, zero, suc, _≤_, _<_}
 use native.Mathlib.Omega.{arith}
 use lib.Dec.{eqb}
 use lib.ListN.{length, getD}
-use Rattle.count.specs.Below.{find}
-use Rattle.count.proofs.Logic.{lt-or-ge}
-use Rattle.count.proofs.Below.{find-not, count-none, count-le}
-use Rattle.words.specs.Brackets.{Bracket, Balanced, step, number, first, size}
+use Rattle.count.proofs.Below.{count-le}
+use Rattle.words.specs.Brackets.{Balanced, step, number, first, size}
 use Rattle.words.specs.declared.family.Family.{Family}
 use Rattle.words.specs.declared.family.Family.the-variants.{Square as square}
 use Rattle.words.specs.Word.{Word, seen, crossing}
 use Rattle.words.proofs.Step.{step-below}
 use Rattle.words.proofs.Crossing.{crossing-below}
+use Rattle.words.proofs.Sizes.{first-below}
 use Rattle.drawing.specs.Drawing.{Kind}
 use Rattle.drawing.specs.Neighbours.{landings}
 use Rattle.format.specs.Bytes.{sizeIn, bitsA, wordIn}
@@ -46,15 +42,6 @@ module _ (area cross along : ℕ → ℕ) where
   landings-each P n a s zero p i l h = absurd (omega arith)
   landings-each P n a s (suc d) p zero l h = a p h
   landings-each P n a s (suc d) p (suc i) l h = landings-each P n a s d (along p) i (omega arith) (s p h)
-
-first-below : (b : ℕ → Bracket) (n k : ℕ) → 0 < size b n k → first b n k < n
-unfolding first size
-first-below b n k h =
-    let P : ℕ → Bool = λ p. eqb (number b p) k in
-    elim (lt-or-ge (find P n) n) [
-      | inl l ↦ l
-      | inr g ↦ let z = count-none P n (λ x l. find-not P n x (omega arith)) in absurd (omega arith)
-    ]
 
 module _ (w : Word) (k : ℕ) where
   pub landings-long : length (landingsIn w k) ≡ placesIn w Kind.area k

@@ -1,6 +1,5 @@
 -- The two lists: their test decides what it says, and when a sum has a factor in it.
 --
--- decides-true     == a test decides that it holds
 -- tariff-decides   == the test of check 18 decides its proposition
 -- knows f          == how many factors f adds: 1, or 0 where it is not known
 -- added-count, added-most == a sum with one area more has as many more in it
@@ -10,7 +9,7 @@
 -- Assumes nothing.
 use mathlib.Core.Path.{_≡_, refl, sym, subst}
 use mathlib.Core.Logic.{_⊎_, inl, inr, ⊎-elim, _↔_}
-use mathlib.Core.Bool.{Bool, true, _&&_}
+use mathlib.Core.Bool.{true, _&&_}
 use mathlib.Core.List.{List, [], _∷_}
 use Prim.Native.Nat.{ℕ, zero, suc, _+_, _*_, _≤_, _<_}
 use native.Mathlib.Omega.{arith}
@@ -19,14 +18,11 @@ use lib.Ieee.{Float}
 use lib.ListN.{length, getD}
 use Rattle.count.specs.Below.{Decides}
 use Rattle.count.proofs.Logic.{lt-or-ge}
-use Rattle.count.proofs.Decides.{decides-eq, decides-le, decides-lt, decides-both, decides-all, decides-as}
+use Rattle.count.proofs.Decides.{decides-true, decides-eq, decides-le, decides-lt, decides-both, decides-all, decides-as}
 use Rattle.tariff.specs.declared.factor.Factor.{Factor}
 use Rattle.tariff.specs.declared.factor.Running.{Running}
 use Rattle.tariff.specs.Tariff.{factorAt, allowed, TariffFits, tariffFits, begun, added, summed, hasFactor}
 use Rattle.tariff.specs.Statements.{Known, Priced}
-
-pub decides-true : (t : Bool) → Decides t (t ≡ true)
-decides-true t = record { sound = λ e. e; complete = λ e. e }
 
 pub tariff-decides : (v : ℕ) (kinds : List ℕ) (values : List Float) → Decides (tariffFits v kinds values) (TariffFits v kinds values)
 unfolding tariffFits

@@ -53,12 +53,14 @@ pub record SameUsed (kinds : List ℕ) (values others : List Float) : Type 0 whe
   pub used : (i f : ℕ) → i < length kinds → f < 3 → uses (getD kinds i 0) f ≡ true
       → getD others (3 * i + f) nan ≡ getD values (3 * i + f) nan
 
--- Refusals come in order, and each exactly where it applies (`order`). An own factor is answered as it is, a held one lies between
+-- Refusals come in order, and each exactly where it applies (`order`); what is answered is the factor by the lists, and nothing
+-- else (`only`). An own factor is answered as it is, a held one lies between
 -- its floor and its ceiling and is itself where it lies there already, one not known is the mean. Every answer is a number between
 -- 1/128 and 128, so its bits are fixed (`bounded`): of a mean, rounding leaves no narrower claim that is as simple. What a kind
 -- doesn't use changes nothing (`unread`).
 pub record Factored (s : List ℕ) (k : ℕ) (kinds : List ℕ) (values : List Float) : Type 0 where
   pub order : InOrder bare (FactorCheck s k kinds values) 8 19 (factorIn s k kinds values) (factorOf s k kinds values)
+  pub only : (y : Float) → factorOf s k kinds values ≡ answer y → y ≡ factorIn s k kinds values
   pub own : (x : Float) → factorAt kinds values k ≡ Factor.Own x → factorIn s k kinds values ≡ x
   pub between : (x low high y : Float) → factorAt kinds values k ≡ Factor.Held x low high → factorOf s k kinds values ≡ answer y
       → (le low y ≡ true) × (le y high ≡ true)
