@@ -1,7 +1,8 @@
 // The listing of a map as text, or the line of a refusal.
 //
-//     list      the listing of a map, or the line of the check that declines its bytes
-//     refused   the line `refused`, a space and a number
+//     list                the listing of a map, or the line of the check that declines its bytes
+//     pmap_listing_text   the same for a C host
+//     refused             the line `refused`, a space and a number
 //
 // Conventions. The text stands at the start of the memory lent, and its length is answered; the bytes
 // after it stay as they were. The memory has the room of the longest listing: a heading of 26 bytes
@@ -14,4 +15,5 @@ mod print;
 
 pub use print::ROOM;
 pub use print::list;
+pub use print::pmap_listing_text;
 pub use print::refused;

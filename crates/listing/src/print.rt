@@ -34,6 +34,15 @@ pub fn refused(k: u8, out: &mut [u8; ROOM]) -> usize
     printing::refused(k, out)
 }
 
+// The listing, or the line, for a C host, as `rt staticlib listing` gives it.
+#[no_mangle]
+pub extern "C" fn pmap_listing_text(map: &[u8], out: &mut [u8; ROOM]) -> usize
+    ensures { λ r. ⌜ r ≡ length (printed (now (map .entry))) ⌝ }
+    ensures { λ _. ⌜ now (out .exit) ≡ laid (printed (now (map .entry))) (now (out .entry)) ⌝ }
+{
+    list(map, out)
+}
+
 // The heading, then the lines of all places.
 fn put_listing(map: &[u8], out: &mut [u8]) -> usize
     requires { ⌜ (openRefusal (now map) ≡ 0) × (90138 ≤ length (now out)) ⌝ }
