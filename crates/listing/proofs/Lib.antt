@@ -1,4 +1,5 @@
 -- The listing of a map: laws.
 pub mod Letters
 pub mod Listed
+pub mod Running
 pub mod Texts

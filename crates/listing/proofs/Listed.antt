@@ -5,6 +5,7 @@
 -- field x end      == a number, and the byte after it
 -- line-fields      == a line is its five fields
 -- line-wrote       == they are put one after the other
+-- line-says        == what the line of a position says
 -- lines-more       == the lines of one place more
 -- Lined            == what the loop of `put_lines` keeps: the lines of the first p places stand
 -- lined-position, lined-room == the next place is one of the map, and its line has room
@@ -23,7 +24,8 @@ use Rattle.words.specs.declared.family.Family.the-variants.{Round as round, Squ
 use Rattle.words.specs.Word.{Word, seen, crossing}
 use Rattle.words.proofs.Numbers.{number-range}
 use Rattle.drawing.specs.Session.{Call}
-use Rattle.format.specs.Bytes.{sizeIn, bitsA, wordIn}
+use Rattle.bits.specs.Strings.{bit}
+use Rattle.format.specs.Bytes.{sizeIn, bitsA, partA, wordIn}
 use Rattle.format.specs.Calls.{moveIn}
 use Rattle.format.specs.Open.{openRefusal}
 use Rattle.text.specs.Decimal.{space, lineFeed, decimal}
@@ -32,8 +34,12 @@ use Rattle.walking.specs.Positions.{Position}
 use Rattle.walking.proofs.Decoded.{places-most}
 use Rattle.printing.specs.Writing.{Wrote}
 use Rattle.printing.proofs.Writes.{wrote-none, wrote-then, wrote-as}
+use Rattle.listing.specs.declared.line.Line.{Line}
+use Rattle.listing.specs.Lines.{lineText, Short, Says}
+use Rattle.listing.specs.Running.{counts}
+use Rattle.listing.proofs.Running.{counts-le, running-rank}
 
-pub number-few : (s : List ℕ) (K : Family) (p x : ℕ) → Position s p → x ≡ number (seen K (wordIn s)) p → x < 10000
+number-few : (s : List ℕ) (K : Family) (p x : ℕ) → Position s p → x ≡ number (seen K (wordIn s)) p → x < 10000
 number-few s K p x P e =
     omega (
       arith,
@@ -43,41 +49,55 @@ number-few s K p x P e =
     )
 
 -- ---- one line
-module _ (old k : List ℕ) (at a r b : ℕ) (mid new : List ℕ) (h : at + 2 ≤ length old) where
-  pub kind-wrote : k ≡ b ∷ [] → Wrote old at (b ∷ []) a mid → Wrote mid a (space ∷ []) r new → Wrote old at (k ++ (space ∷ [])) r new × (r ≤ at + 2)
-  kind-wrote e W Y = (
-    wrote-as old ((b ∷ []) ++ (space ∷ [])) (k ++ (space ∷ [])) at r new (ap (λ x. x ++ (space ∷ [])) (sym e)) (wrote-then old (b ∷ []) at a mid (omega arith) W (space ∷ []) r new Y),
-    omega (arith, W .next, Y .next),
-  )
+module _ (old mid new : List ℕ) (at a r k : ℕ) (h : at + 2 ≤ length old) where
+  pub kind-wrote : Wrote old at (k ∷ []) a mid → Wrote mid a (space ∷ []) r new → Wrote old at (k ∷ space ∷ []) r new × (r ≤ at + 2)
+  kind-wrote W Y = (wrote-then old (k ∷ []) at a mid (omega arith) W (space ∷ []) r new Y, omega (arith, W .next, Y .next))
 
 -- a number, and the byte after it
-abbrev pub field : ℕ → ℕ → List ℕ
+abbrev field : ℕ → ℕ → List ℕ
 field x end = decimal x ++ (end ∷ [])
 
-line-fields : (w : Word) (p : ℕ) (k : List ℕ) (x y z : ℕ)
-    → k ≡ kind (w .letter p) → x ≡ crossing w p → y ≡ moveIn w Call.point p → z ≡ moveIn w Call.area p
-    → (((field (p + 1) space ++ (k ++ (space ∷ []))) ++ field (x + 1) space) ++ field y space) ++ field z lineFeed ≡ placeLine w p
-unfolding placeLine moveIn
-line-fields w p k x y z ek ex ey ez = rw (ek, ex, ey, ez) (simp (append-assoc, add-one))
+line-fields : (l : Line) → (((field (l .place) space ++ (l .bracket ∷ space ∷ [])) ++ field (l .mate) space) ++ field (l .node) space) ++ field (l .area) lineFeed
+    ≡ lineText l
+unfolding lineText
+line-fields l = simp append-assoc
 
-module _ (s : List ℕ) (p at : ℕ) (o₀ o₁ o₂ o₃ o₄ o₅ : List ℕ) (a b c d r : ℕ) (h : at + 22 ≤ length o₀) where
-  pub line-wrote : (x y z : ℕ) → Wrote o₀ at (field (p + 1) space) a o₁ → Wrote o₁ a (kind (wordIn s .letter p) ++ (space ∷ [])) b o₂
-      → x ≡ crossing (wordIn s) p → Wrote o₂ b (field (x + 1) space) c o₃
-      → y ≡ number (seen round (wordIn s)) p → Wrote o₃ c (field y space) d o₄
-      → z ≡ number (seen square (wordIn s)) p → Wrote o₄ d (field z lineFeed) r o₅
-      → Wrote o₀ at (placeLine (wordIn s) p) r o₅
-  unfolding moveIn
-  line-wrote x y z A B ex C ey D ez E =
-      let l : at ≤ length o₀ = omega arith in
-      let k = kind (wordIn s .letter p) ++ (space ∷ []) in
-      let B′ = wrote-then o₀ (field (p + 1) space) at a o₁ l A k b o₂ B in
-      let C′ = wrote-then o₀ (field (p + 1) space ++ k) at b o₂ l B′ (field (x + 1) space) c o₃ C in
-      let D′ = wrote-then o₀ ((field (p + 1) space ++ k) ++ field (x + 1) space) at c o₃ l C′ (field y space) d o₄ D in
-      let E′ = wrote-then o₀ (((field (p + 1) space ++ k) ++ field (x + 1) space) ++ field y space) at d o₄ l D′ (field z lineFeed) r o₅ E in
-      wrote-as o₀ ((((field (p + 1) space ++ k) ++ field (x + 1) space) ++ field y space) ++ field z lineFeed) (placeLine (wordIn s) p) at r o₅
-      (line-fields (wordIn s) p (kind (wordIn s .letter p)) x y z refl ex ey ez) E′
+module _ (l : Line) (at : ℕ) (o₀ o₁ o₂ o₃ o₄ o₅ : List ℕ) (a b c d r : ℕ) (h : at + 22 ≤ length o₀) where
+  pub line-wrote : Wrote o₀ at (field (l .place) space) a o₁ → Wrote o₁ a (l .bracket ∷ space ∷ []) b o₂
+      → Wrote o₂ b (field (l .mate) space) c o₃ → Wrote o₃ c (field (l .node) space) d o₄ → Wrote o₄ d (field (l .area) lineFeed) r o₅
+      → Wrote o₀ at (lineText l) r o₅
+  line-wrote A B C D E =
+      let g : at ≤ length o₀ = omega arith in
+      let t₁ = field (l .place) space in
+      let t₂ = t₁ ++ (l .bracket ∷ space ∷ []) in
+      let t₃ = t₂ ++ field (l .mate) space in
+      let t₄ = t₃ ++ field (l .node) space in
+      let B′ = wrote-then o₀ t₁ at a o₁ g A (l .bracket ∷ space ∷ []) b o₂ B in
+      let C′ = wrote-then o₀ t₂ at b o₂ g B′ (field (l .mate) space) c o₃ C in
+      let D′ = wrote-then o₀ t₃ at c o₃ g C′ (field (l .node) space) d o₄ D in
+      let E′ = wrote-then o₀ t₄ at d o₄ g D′ (field (l .area) lineFeed) r o₅ E in
+      wrote-as o₀ (t₄ ++ field (l .area) lineFeed) (lineText l) at r o₅ (line-fields l) E′
 
-pub ruleset line-all = (number-few, needs)
+line-same : (w : Word) (p k x y z : ℕ)
+    → kind (w .letter p) ≡ k ∷ [] → x ≡ crossing w p → y ≡ moveIn w Call.point p → z ≡ moveIn w Call.area p
+    → lineText (record { place = p + 1; bracket = k; mate = x + 1; node = y; area = z }) ≡ placeLine w p
+unfolding lineText placeLine moveIn
+line-same w p k x y z ek ex ey ez = rw (ek, ex, ey, ez) (simp add-one)
+
+pub line-says : (s : List ℕ) (p k x y z : ℕ) → Position s p → kind (wordIn s .letter p) ≡ k ∷ [] → x ≡ crossing (wordIn s) p → Position s x
+    → y ≡ number (seen round (wordIn s)) p → z ≡ number (seen square (wordIn s)) p
+    → Says s p (record { place = p + 1; bracket = k; mate = x + 1; node = y; area = z })
+unfolding moveIn
+line-says s p k x y z P ek ex Q ey ez =
+    record {
+      text = line-same (wordIn s) p k x y z ek ex ey ez;
+      short = record {
+        place = omega (arith, P .few);
+        mate = omega (arith, Q .few);
+        node = number-few s round p y P ey;
+        area = number-few s square p z P ez;
+      };
+    }
 
 -- ---- all lines
 lines-more : (w : Word) (q k : ℕ) → placeLines w q (suc k) ≡ placeLines w q k ++ placeLine w (q + k)
@@ -90,31 +110,35 @@ lines-more w q (suc k) =
     ap (λ l. placeLine w q ++ l) (lines-more w (suc q) k ∙ ap (λ i. placeLines w (suc q) k ++ placeLine w i) e)
     ∙ sym (append-assoc (placeLine w q) (placeLines w (suc q) k) (placeLine w (q + suc k)))
 
-pub record Lined (s old : List ℕ) (at n p : ℕ) (out : List ℕ) (next : ℕ) : Type 0 where
+pub record Lined (s old : List ℕ) (at n p ones : ℕ) (out : List ℕ) (next : ℕ) : Type 0 where
   pub opens : openRefusal s ≡ 0
   pub count : n ≡ bitsA (sizeIn s)
   pub within : p ≤ n
+  pub running : ones ≡ counts (partA s) p
   pub so-far : Wrote old at (placeLines (wordIn s) 0 p) next out
   pub room : at + 22 * 4096 ≤ length old
   pub most : next ≤ at + 22 * p
   pub same : length out ≡ length old
 
 module _ (s old : List ℕ) (at n : ℕ) where
-  pub lined-start : openRefusal s ≡ 0 → n ≡ bitsA (sizeIn s) → at + 22 * 4096 ≤ length old → Lined s old at n 0 old at
+  pub lined-start : openRefusal s ≡ 0 → n ≡ bitsA (sizeIn s) → at + 22 * 4096 ≤ length old → Lined s old at n 0 0 old at
   unfolding placeLines
   lined-start o e h =
-      record { opens = o; count = e; within = omega arith; so-far = wrote-none old at; room = h; most = omega arith; same = refl }
+      record { opens = o; count = e; within = omega arith; running = sym (running-rank s .first); so-far = wrote-none old at; room = h; most = omega arith; same = refl }
 
-  module _ (p next : ℕ) (out : List ℕ) (L : Lined s old at n p out next) where
+  module _ (p ones next : ℕ) (out : List ℕ) (L : Lined s old at n p ones out next) where
     pub lined-position : p < n → Position s p
     lined-position l = let m = places-most s (L .opens) in record { opens = L .opens; below = omega (arith, L .count); few = omega (arith, L .count) }
 
     pub lined-room : p < n → next + 22 ≤ length out
     lined-room l = omega (arith, L .count, L .room, L .most, L .same, places-most s (L .opens))
 
-    pub lined-step : (r : ℕ) (new : List ℕ) → p < n → Wrote out next (placeLine (wordIn s) p) r new → r ≤ next + 22
-        → length new ≡ length out → Lined s old at n (p + 1) new r
-    lined-step r new l W m e =
+    pub lined-fits : (x : ℕ) → p < n → x < 2 → ones + x < 18446744073709551616
+    lined-fits x l t = omega (arith, L .count, places-most s (L .opens), counts-le s p ones (L .running))
+
+    pub lined-step : (a : List ℕ) (x r : ℕ) (l : Line) (new : List ℕ) → p < n → a ≡ partA s → x ≡ bit a p → Says s p l → Wrote out next (lineText l) r new → r ≤ next + 22
+        → length new ≡ length out → Lined s old at n (p + 1) (ones + x) new r
+    lined-step a x r l new i ea ex S W m e =
         let z : 0 + p ≡ p = omega arith in
         let f : placeLines (wordIn s) 0 p ++ placeLine (wordIn s) p ≡ placeLines (wordIn s) 0 (p + 1)
         = sym (ap (placeLines (wordIn s) 0) (add-one p) ∙ lines-more (wordIn s) 0 p ∙ ap (λ i. placeLines (wordIn s) 0 p ++ placeLine (wordIn s) i) z) in
@@ -122,8 +146,9 @@ module _ (s old : List ℕ) (at n : ℕ) where
           opens = L .opens;
           count = L .count;
           within = omega arith;
+          running = omega (arith, L .running, ex ∙ ap (λ t. bit t p) ea, running-rank s .next p);
           so-far = wrote-as old (placeLines (wordIn s) 0 p ++ placeLine (wordIn s) p) (placeLines (wordIn s) 0 (p + 1)) at r new f
-              (wrote-then old (placeLines (wordIn s) 0 p) at next out (omega (arith, L .room)) (L .so-far) (placeLine (wordIn s) p) r new W);
+              (wrote-then old (placeLines (wordIn s) 0 p) at next out (omega (arith, L .room)) (L .so-far) (placeLine (wordIn s) p) r new (wrote-as out (lineText l) (placeLine (wordIn s) p) next r new (S .text) W));
           room = L .room;
           most = omega (arith, L .most);
           same = e ∙ L .same;
@@ -133,5 +158,3 @@ module _ (s old : List ℕ) (at n : ℕ) where
     lined-end l =
         let e : p ≡ bitsA (sizeIn s) = omega (arith, L .count, L .within) in
         wrote-as old (placeLines (wordIn s) 0 p) (placeLines (wordIn s) 0 (bitsA (sizeIn s))) at next out (ap (placeLines (wordIn s) 0) e) (L .so-far)
-
-pub ruleset lined-all = (lined-start, lined-position, lined-room, lined-step, lined-end, needs)

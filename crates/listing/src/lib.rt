@@ -10,6 +10,7 @@
 //
 // The source is document 01, "Listing". The definitions that the contracts cite are those of the crate
 // `text`, and `printed` in specs/Printed.antt.
+mod line;
 mod lines;
 mod print;
 

@@ -1,14 +1,7 @@
 -- `listing::lines::kind_of` meets its contract. Assumes nothing.
 use Rattle.listing.proofs.Letters.{kind-round-closes, kind-round-opens, kind-square-closes, kind-square-opens}
-use borrow.Author.Needs.{needs}
 use Rattle.listing.proofs.lines.kind_of.Statement.{statement}
 use Rattle.listing.proofs.lines.kind_of.Tie as tie
-
-enum-told : tie.Need-enum-told
-enum-told c = search needs
-
-enum-told-2 : tie.Need-enum-told-2
-enum-told-2 c = search needs
 
 returns : tie.Need-returns
 returns c = search kind-round-closes
@@ -23,4 +16,4 @@ returns-4 : tie.Need-returns-4
 returns-4 c = search kind-square-opens
 
 pub kind-of-spec : {M : Type 1} → statement M
-kind-of-spec = tie.close (tie.spec enum-told enum-told-2 returns returns-2 returns-3 returns-4)
+kind-of-spec = tie.close (tie.spec returns returns-2 returns-3 returns-4)

@@ -1,0 +1,28 @@
+-- `listing::lines::line_at` meets its contract. Assumes nothing.
+use Rattle.listing.proofs.Listed.{line-says}
+use borrow.Author.Needs.{needs}
+use Rattle.listing.proofs.lines.line_at.Statement.{statement}
+use Rattle.listing.proofs.lines.line_at.Tie as tie
+
+crossing-in-requires : tie.Need-crossing-in-requires
+crossing-in-requires c κs = search needs
+
+add-mate : tie.Need-add-mate
+add-mate c = search needs
+
+point-in-requires : tie.Need-point-in-requires
+point-in-requires c κs = search needs
+
+area-in-requires : tie.Need-area-in-requires
+area-in-requires c κs = search needs
+
+add-t10 : tie.Need-add-t10
+add-t10 c = search needs
+
+returns : tie.Need-returns
+returns c = search line-says
+
+pub line-at-spec : {M : Type 1} → statement M
+line-at-spec =
+    tie.close
+    (tie.spec crossing-in-requires add-mate point-in-requires area-in-requires add-t10 returns)
