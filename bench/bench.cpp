@@ -248,6 +248,7 @@ std::vector<grown> all_grown()
     list.push_back({ "pack", pack_task });
     list.push_back({ "unpack", unpack_task });
     list.push_back({ "schedule", schedule_task });
+    list.push_back({ "listing", listing_task });
     return list;
 }
 
@@ -262,10 +263,10 @@ int main()
     for (size_t m : { 16, 128, 1024, 2048 })
         for (int k = 0; k < ALL_KINDS; k++) {
             bytes map = make_map(kind(k), m);
-            if (!calls_agree(map) || !sessions_agree(map) || !unpacking_agrees(map) || !schedules_agree(map) || !factors_agree(map))
+            if (!calls_agree(map) || !sessions_agree(map) || !unpacking_agrees(map) || !schedules_agree(map) || !listings_agree(map) || !factors_agree(map))
                 return 1;
         }
-    std::printf("all agree on every answer: %d kinds of maps, 16 to 2,048 borders, %d calls, 300 questions each; sessions of 300 calls; unpacking; schedules; factors; refusals of each\n", ALL_KINDS, NUMBER_CALLS + 2);
+    std::printf("all agree on every answer: %d kinds of maps, 16 to 2,048 borders, %d calls, 300 questions each; sessions of 300 calls; unpacking; schedules; listings; factors; refusals of each\n", ALL_KINDS, NUMBER_CALLS + 2);
     for (size_t m : { 16, 128, 2048 })
         compare_all(m);
     show_neighbours(2048);
@@ -274,6 +275,9 @@ int main()
     show_packing(2048);
     show_unpacking(2048);
     show_schedules(2048);
+    for (size_t m : { 16, 128, 1024, 2048 })
+        show_listings(m);
+    show_program(2048);
     show_factors(2048);
     show_growth(all_grown());
     return 0;

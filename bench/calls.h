@@ -17,7 +17,7 @@ typedef uint8_t session_call(const uint8_t *map, size_t length, size_t first, co
 typedef uint8_t unpack_call(const uint8_t *map, size_t length, uint16_t *turning, size_t turning_length, uint8_t *marks, size_t marks_length, uint16_t *m);
 typedef uint8_t factor_call(const uint8_t *map, size_t length, size_t area, const uint8_t *kinds, size_t kinds_length, const double *values, size_t values_length,
                             double *out);
-typedef size_t schedule_call(const uint8_t *map, size_t length, uint8_t *out);
+typedef size_t text_call(const uint8_t *map, size_t length, uint8_t *out);
 
 enum { NUMBER_CALLS = 11 };
 
@@ -34,11 +34,12 @@ extern const struct calls halfedge_calls;  /* arrays of half-edges, built from t
 extern const struct calls succinct_calls;  /* sdsl's rank, select and parentheses, built from the bytes at each call */
 
 /* Arrays of half-edges, built from the bytes once: then all calls of a session, the drawing, or the factor of an area, as pmap gives
-   them, or the text of the schedule. */
+   them, or the text of the schedule or of the listing. */
 session_call halfedge_session;
 unpack_call halfedge_unpack;
 factor_call halfedge_factor;
-schedule_call halfedge_schedule;
+text_call halfedge_schedule;
+text_call halfedge_listing;
 
 /* The factor of an area bit by bit. */
 factor_call bitwise_factor;

@@ -1,8 +1,9 @@
 /* (b) The same checks, then plain arrays of half-edges built from the bytes, then the answer by looking it up: of one call, of
-   all calls of a session, of every place at once, which is the drawing, of every side of an area, which is its factor, or of every
-   area, which is the schedule. */
+   all calls of a session, of every place at once, which is the drawing or the listing, of every side of an area, which is its factor,
+   or of every area, which is the schedule. */
 #include "answers.h"
 #include "calls.h"
+#include "lines.h"
 #include "pages.h"
 #include "tariff.h"
 
@@ -264,6 +265,20 @@ size_t halfedge_schedule(const uint8_t *map, size_t length, uint8_t *out)
     for (k = 1; k <= x.m - x.n + 2; k++)
         put_area(&p, x.size[0][k], x.m == 0 ? 0 : x.first[0][k] + 1u);
     return end_pages(&p);
+}
+
+size_t halfedge_listing(const uint8_t *map, size_t length, uint8_t *out)
+{
+    struct arrays x;
+    uint8_t *at = put_heading(out);
+    uint8_t status = build(map, length, &x);
+    size_t p;
+
+    if (status != 0)
+        return put_refusal(out, status);
+    for (p = 0; p < x.places; p++)
+        at = put_place(at, p + 1, x.round[p], x.closing[p], x.mate[p] + 1u, x.cell[1][p], x.cell[0][p]);
+    return (size_t)(at - out);
 }
 
 const struct calls halfedge_calls = {

@@ -1,5 +1,5 @@
-// What the parts of the bench offer each other: sessions, packing and unpacking, schedules, factors, growth. The calls on a map are
-// in bench.cpp.
+// What the parts of the bench offer each other: sessions, packing and unpacking, schedules, listings, factors, growth. The calls on a
+// map are in bench.cpp.
 #ifndef PARTS_H
 #define PARTS_H
 
@@ -17,14 +17,16 @@ using maps = std::vector<bytes>;
 bool sessions_agree(const bytes &map);
 bool unpacking_agrees(const bytes &map);
 bool schedules_agree(const bytes &map);
+bool listings_agree(const bytes &map);
 bool factors_agree(const bytes &map);
 
 // What is proved, on one map after the other, while they are there: a session of so many calls, packing, unpacking, a schedule, a
-// factor that is known, one that is not of an area at random, or of the area with most sides.
+// listing, a factor that is known, one that is not of an area at random, or of the area with most sides.
 task session_task(const maps &all, size_t calls);
 task pack_task(const maps &all);
 task unpack_task(const maps &all);
 task schedule_task(const maps &all);
+task listing_task(const maps &all);
 enum factor_of { KNOWN, AT_RANDOM, LARGEST };
 task factor_task(const maps &all, factor_of which);
 
@@ -34,6 +36,8 @@ void show_short_sessions();
 void show_packing(size_t m);
 void show_unpacking(size_t m);
 void show_schedules(size_t m);
+void show_listings(size_t m);
+void show_program(size_t m);
 void show_factors(size_t m);
 
 // How the times of what is proved grow with m: on random maps, and on the kind of map that is slowest at each size.

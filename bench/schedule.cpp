@@ -9,7 +9,7 @@
 
 // The proved schedule, in an archive of its own, target/staticlib/libscheduling.a: writes the text, or the line of a refusal, and
 // gives its length. `out` has room for SCHEDULE_ROOM bytes.
-extern "C" size_t pmap_schedule_text(const uint8_t *map, size_t map_length, uint8_t *out);
+extern "C" text_call pmap_schedule_text;
 
 namespace {
 
@@ -30,7 +30,7 @@ size_t single_calls_schedule(const uint8_t *map, size_t length, uint8_t *out)
     return end_pages(&p);
 }
 
-bytes text_by(schedule_call *whose, const bytes &map)
+bytes text_by(text_call *whose, const bytes &map)
 {
     bytes out(SCHEDULE_ROOM);
     out.resize(whose(map.data(), map.size(), out.data()));
@@ -43,7 +43,7 @@ bool alike(const bytes &map)
     return proved == text_by(single_calls_schedule, map) && proved == text_by(halfedge_schedule, map);
 }
 
-task schedule_by(schedule_call *whose, const maps &all)
+task schedule_by(text_call *whose, const maps &all)
 {
     return { [=, &all, out = bytes(SCHEDULE_ROOM)]() mutable {
                 for (const bytes &map : all) {

@@ -45,9 +45,9 @@ running-rank s =
       marked = counts-rank A;
       unmarked = zeros;
       letter = λ p.
-        bit-cases A p
-        (λ e. rw (e, sym (zeros p)) refl)
-        (λ e. rw (e, sym (counts-rank A p)) refl);
+          bit-cases A p
+          (λ e. rw (e, sym (zeros p)) refl)
+          (λ e. rw (e, sym (counts-rank A p)) refl);
     }
 
 module _ (s : List ℕ) (p ones : ℕ) (h : ones ≡ counts (partA s) p) where

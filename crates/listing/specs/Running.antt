@@ -28,9 +28,12 @@ letterFrom x b c = record { family = familyOf x; closing = eqb (pick (eqb x 1) b
 
 -- 02: "each line's rank in A is that count"
 pub record RunningRank (s : List ℕ) : Type 0 where
+  -- 0 at first; then the count of the line before, and this place's bit
   pub first : counts (partA s) 0 ≡ 0
   pub next : (p : ℕ) → counts (partA s) (p + 1) ≡ counts (partA s) p + bit (partA s) p
+  -- the rank in A, of the ones; that of the zeros is what is left
   pub marked : (p : ℕ) → rank 1 (partA s) p ≡ counts (partA s) p
   pub unmarked : (p : ℕ) → rank 0 (partA s) p ≡ p - counts (partA s) p
+  -- what a line needs it for: the next unread bit of B, and of B*, by which it has its kind
   pub letter : (p : ℕ) → wordIn s .letter p
       ≡ letterFrom (bit (partA s) p) (bit (partB round s) (counts (partA s) p)) (bit (partB square s) (p - counts (partA s) p))

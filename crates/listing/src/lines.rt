@@ -83,14 +83,7 @@ fn kind_of(marked: usize, b: usize, c: usize) -> u8
 }
 
 // What the line of position p says, whose kind is given.
-fn line_at(
-    map: &[u8],
-    mates: &[u16],
-    areas: &[u16],
-    points: &[u16],
-    p: usize,
-    bracket: u8,
-) -> Line
+fn line_at(map: &[u8], mates: &[u16], areas: &[u16], points: &[u16], p: usize, bracket: u8) -> Line
     requires { ⌜ Position (now map) p × (kind (wordIn (now map) .letter p) ≡ bracket ∷ []) ⌝ }
     requires { ⌜ Mates (now map) (now mates) × Numbers square (now map) (now areas) × Numbers round (now map) (now points) ⌝ }
     ensures { λ r. ⌜ Says (now (map .entry)) p r ⌝ }

@@ -18,7 +18,7 @@ use borrow.Author.Needs.{needs}
 use Rattle.text.specs.Decimal.{space, zeroByte, decimal, aligned}
 use Rattle.text.proofs.Decimal.{decimal-small, decimal-more}
 use Rattle.printing.specs.Writing.{Wrote}
-use Rattle.printing.proofs.Writes.{wrote-none, wrote-as, Copying, copy-start, copy-step, copy-end}
+use Rattle.printing.proofs.Writes.{wrote-none, wrote-as, Copying, copy-start, copy-step, copy-end, more-digits}
 
 -- ---- spaces
 module _ (old : List ℕ) (at k : ℕ) where
@@ -94,12 +94,8 @@ module _ (old : List ℕ) (end x : ℕ) where
       record { text = []; stands = wrote-none old end; whole = sym (append-nil (decimal x)); begins = b; last = omega arith; room = room; same = refl }
 
   module _ (i rest : ℕ) (out : List ℕ) (D : Digits old end x i rest out) where
-    -- a number has a digit, and one of 10 or more has another
-    tenth : 10 ≤ rest → length (decimal rest) ≡ length (decimal (rest / 10)) + 1
-    tenth g = ap length (decimal-more rest g) ∙ length-append (decimal (rest / 10)) ((zeroByte + rest % 10) ∷ [])
-
     pub digits-left : 10 ≤ rest → 0 < i
-    digits-left g = omega (arith, D .begins, tenth g)
+    digits-left g = omega (arith, D .begins, more-digits rest g)
 
     pub digits-room : 10 ≤ rest → i - 1 < length out
     digits-room g = omega (arith, D .last, D .room, D .same, digits-left g)
@@ -115,7 +111,7 @@ module _ (old : List ℕ) (end x : ℕ) where
               D .whole
               ∙ ap (λ t. t ++ D .text) (decimal-more rest g ∙ ap (λ y. decimal (rest / 10) ++ (y ∷ [])) (sym e))
               ∙ append-assoc (decimal (rest / 10)) (b ∷ []) (D .text);
-          begins = omega (arith, D .begins, tenth g);
+          begins = omega (arith, D .begins, more-digits rest g);
           last = omega (arith, D .last);
           room = D .room;
           same = length-set out j b ∙ D .same;

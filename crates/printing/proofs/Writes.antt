@@ -4,14 +4,13 @@
 -- wrote-then       == a text and another after it
 -- wrote-as         == an equal text
 -- Copying          == what the loop of `put_text` keeps: the first i bytes stand
--- one-digit, more-digits == how many digits a number has
--- room-small, room-more, room-last == the room that each digit of a number asks for
--- wrote-small, wrote-more == a decimal number of one digit, and of more
+-- more-digits      == a number of 10 or more has a digit more than its tenth
+-- digits-1, digits-2, digits-3, digits-4 == how many digits a number has
 -- number-room, number-last, number-wrote == a number of at most four digits, and the byte after it
 -- Assumes nothing.
 use mathlib.Core.Path.{_≡_, refl, sym, ap, _∙_}
 use mathlib.Core.List.{List, [], _∷_, _++_, append-assoc}
-use Prim.Native.Nat.{ℕ, _+_, _/_, _%_, _<_, _≤_}
+use Prim.Native.Nat.{ℕ, _+_, _-_, _/_, _%_, _<_, _≤_}
 use native.Mathlib.Omega.{arith}
 use native.Mathlib.Numerals.{add-one}
 use lib.ListN.{length, take, drop, set, getD, length-append, length-set, take-append-drop}
@@ -97,46 +96,32 @@ pub ruleset copy-all = (wrote-byte, copy-start, copy-step, copy-end, needs)
 
 -- ---- decimal numbers
 module _ (x : ℕ) where
-  one-digit : x < 10 → length (decimal x) ≡ 1
-  one-digit h = ap length (decimal-small x h)
+  pub digits-1 : x < 10 → 1 ≡ length (decimal x)
+  digits-1 h = sym (ap length (decimal-small x h))
 
-  more-digits : 10 ≤ x → length (decimal x) ≡ length (decimal (x / 10)) + 1
+  pub more-digits : 10 ≤ x → length (decimal x) ≡ length (decimal (x / 10)) + 1
   more-digits h = ap length (decimal-more x h) ∙ length-append (decimal (x / 10)) ((zeroByte + x % 10) ∷ [])
 
--- the room that each digit asks for
-module _ (x at n : ℕ) (h : at + length (decimal x) ≤ n) where
-  pub room-small : x < 10 → at < n
-  room-small l = omega (arith, one-digit x l)
+pub digits-2 : (x : ℕ) → 10 ≤ x → x < 100 → 2 ≡ length (decimal x)
+digits-2 x g l = omega (arith, more-digits x g, digits-1 (x / 10) (omega arith))
 
-  pub room-more : 10 ≤ x → at + length (decimal (x / 10)) ≤ n
-  room-more g = omega (arith, more-digits x g)
+pub digits-3 : (x : ℕ) → 100 ≤ x → x < 1000 → 3 ≡ length (decimal x)
+digits-3 x g l = omega (arith, more-digits x (omega arith), digits-2 (x / 10) (omega arith) (omega arith))
 
-  pub room-last : (old mid : List ℕ) (a : ℕ) → 10 ≤ x → Wrote old at (decimal (x / 10)) a mid → length mid ≡ n → a < length mid
-  room-last old mid a g W e = omega (arith, more-digits x g, W .next)
-
-module _ (old new : List ℕ) (at x r b : ℕ) where
-  pub wrote-small : x < 10 → b ≡ zeroByte + x → Wrote old at (b ∷ []) r new → Wrote old at (decimal x) r new
-  wrote-small h e W = wrote-as old (b ∷ []) (decimal x) at r new (ap (λ y. y ∷ []) e ∙ sym (decimal-small x h)) W
-
-  pub wrote-more : (mid : List ℕ) (a : ℕ) → 10 ≤ x → at ≤ length old → b ≡ zeroByte + x % 10
-      → Wrote old at (decimal (x / 10)) a mid → Wrote mid a (b ∷ []) r new → Wrote old at (decimal x) r new
-  wrote-more mid a g h e W Y =
-      wrote-as old (decimal (x / 10) ++ (b ∷ [])) (decimal x) at r new (ap (λ y. decimal (x / 10) ++ (y ∷ [])) e ∙ sym (decimal-more x g))
-      (wrote-then old (decimal (x / 10)) at a mid h W (b ∷ []) r new Y)
-
-pub ruleset decimal-all = (room-small, room-more, room-last, wrote-small, needs)
+pub digits-4 : (x : ℕ) → 1000 ≤ x → x < 10000 → 4 ≡ length (decimal x)
+digits-4 x g l = omega (arith, more-digits x (omega arith), digits-3 (x / 10) (omega arith) (omega arith))
 
 -- ---- a number, and the byte after it
-module _ (x at : ℕ) (old : List ℕ) (few : x < 10000) (h : at + 5 ≤ length old) where
-  pub number-room : at + length (decimal x) ≤ length old
-  number-room = omega (arith, decimal-length 3 x few)
+module _ (x at d : ℕ) (old : List ℕ) (few : x < 10000) (h : at + 5 ≤ length old) (e : d ≡ length (decimal x)) where
+  pub number-room : (length (decimal x) ≤ at + d) × (at + d ≤ length old)
+  number-room = (omega arith, omega (arith, decimal-length 3 x few))
 
-  pub number-last : (a : ℕ) (mid : List ℕ) → Wrote old at (decimal x) a mid → length mid ≡ length old → a < length mid
-  number-last a mid W e = omega (arith, W .next, decimal-length 3 x few)
+  pub number-last : (mid : List ℕ) → length mid ≡ length old → at + d < length mid
+  number-last mid s = omega (arith, decimal-length 3 x few)
 
-  pub number-wrote : (a r : ℕ) (mid new : List ℕ) (end : ℕ) → Wrote old at (decimal x) a mid → Wrote mid a (end ∷ []) r new
-      → Wrote old at (decimal x ++ (end ∷ [])) r new × (r ≤ at + 5)
-  number-wrote a r mid new end W Y =
-      (wrote-then old (decimal x) at a mid (omega arith) W (end ∷ []) r new Y, omega (arith, W .next, Y .next, decimal-length 3 x few))
-
-pub ruleset number-all = (number-room, number-last, needs)
+  pub number-wrote : (r : ℕ) (mid new : List ℕ) (end : ℕ) → Wrote old (at + d - length (decimal x)) (decimal x) (at + d) mid
+      → Wrote mid (at + d) (end ∷ []) r new → Wrote old at (decimal x ++ (end ∷ [])) r new × (r ≤ at + 5)
+  number-wrote r mid new end W Y =
+      let k : at + d - length (decimal x) ≡ at = omega arith in
+      let D : Wrote old at (decimal x) (at + d) mid = rw k at W in
+      (wrote-then old (decimal x) at (at + d) mid (omega arith) D (end ∷ []) r new Y, omega (arith, Y .next, decimal-length 3 x few))

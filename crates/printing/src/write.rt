@@ -11,7 +11,8 @@ pub fn put_number(out: &mut [u8], at: usize, x: usize, end: u8) -> usize
     requires { ⌜ (x < 10000) × (at + 5 ≤ length (now out)) ⌝ }
     ensures { λ r. ⌜ Wrote (now (out .entry)) at (decimal x ++ (end ∷ [])) r (now (out .exit)) × (r ≤ at + 5) ⌝ }
 {
-    let next = put_decimal(out, at, x);
+    let next = at + digits_in(x);
+    put_digits(out, next, x);
     put_byte(out, next, end)
 }
 
@@ -59,6 +60,22 @@ fn put_spaces(out: &mut [u8], at: usize, k: usize) -> usize
     at + i
 }
 
+// How many digits a number has, of at most four.
+fn digits_in(x: usize) -> usize
+    requires { ⌜ x < 10000 ⌝ }
+    ensures { λ r. ⌜ (r ≡ length (decimal x)) × (r ≤ 4) ⌝ }
+{
+    if x < 10 {
+        1
+    } else if x < 100 {
+        2
+    } else if x < 1000 {
+        3
+    } else {
+        4
+    }
+}
+
 // The digits of a number, the last one just before byte `end`.
 fn put_digits(out: &mut [u8], end: usize, x: usize)
     requires { ⌜ (length (decimal x) ≤ end) × (end ≤ length (now out)) ⌝ }
@@ -72,18 +89,6 @@ fn put_digits(out: &mut [u8], end: usize, x: usize)
         rest = rest / 10;
     }
     out[i - 1] = digit(rest);
-}
-
-// A number in decimal: the digits of its tenth, then its last.
-fn put_decimal(out: &mut [u8], at: usize, x: usize) -> usize
-    requires { ⌜ at + length (decimal x) ≤ length (now out) ⌝ }
-    ensures { λ r. ⌜ Wrote (now (out .entry)) at (decimal x) r (now (out .exit)) ⌝ }
-{
-    if x < 10 {
-        return put_byte(out, at, digit(x));
-    }
-    let next = put_decimal(out, at, x / 10);
-    put_byte(out, next, digit(x % 10))
 }
 
 // The byte of a digit.

@@ -24,7 +24,7 @@ same-length : tie.Need-same-length
 same-length c = search needs
 
 returns : tie.Need-returns
-returns c = 
+returns c =
     let fifth = c .before .before in
     let fourth = fifth .before .before .before .before in
     let third = fourth .before .before .before .before in

@@ -51,9 +51,11 @@ line-at-requires c κs =
     let loop = marked .before in
     let strings = loop .before .before in
     let L = loop .before .loop .inv in (
-      (lined-position _ _ _ _ _ _ _ _ L (loop .loop-test .taken),
+      (
+        lined-position _ _ _ _ _ _ _ _ L (loop .loop-test .taken),
         kind-read _ _ _ (L .running) _ _ _ _ _ _ _ (strings .before .before .before .part-a .ensures) (strings .before .before .part-b .ensures)
-            (strings .before .part-b2 .ensures) (marked .bit .ensures .0) (round .bit2 .ensures .0) (square .bit3 .ensures .0) (kind .kind-of .ensures)),
+            (strings .before .part-b2 .ensures) (marked .bit .ensures .0) (round .bit2 .ensures .0) (square .bit3 .ensures .0) (kind .kind-of .ensures),
+      ),
       strings .before .before .before .before .before .before .pre .1,
     )
 
@@ -61,7 +63,7 @@ put-line-requires : tie.Need-put-line-requires Inv-loop μ-loop
 put-line-requires c κs = search (lined-room, needs)
 
 add-ones : tie.Need-add-ones Inv-loop μ-loop
-add-ones c = search lined-fits
+add-ones c = search (lined-fits, needs)
 
 add-p : tie.Need-add-p Inv-loop μ-loop
 add-p c = search needs
