@@ -8,6 +8,7 @@
 #include "pages.h"
 #include "parts.h"
 #include "pmap.h"
+#include "texts.h"
 
 // The proved listing, in an archive of its own, target/staticlib/liblisting.a: writes the text, or the line of a refusal, and gives its
 // length. `out` has room for LISTING_ROOM bytes.
@@ -45,53 +46,20 @@ size_t single_calls_listing(const uint8_t *map, size_t length, uint8_t *out)
     return size_t(at - out);
 }
 
-struct version {
-    const char *name;
-    text_call *list;
-};
-
-const std::vector<version> versions = {
-    { "proved", pmap_listing_text },
+const std::vector<text_version> versions = {
+    { "proved", pmap_listing_text, LISTING_ROOM },
 #ifdef BEFORE
-    { "before", before_listing_text },
+    { "before", before_listing_text, LISTING_ROOM },
 #endif
-    { "single calls", single_calls_listing },
-    { "half-edges", halfedge_listing },
+    { "single calls", single_calls_listing, LISTING_ROOM },
+    { "half-edges", halfedge_listing, LISTING_ROOM },
 };
-
-bytes text_by(const version &v, const bytes &map)
-{
-    bytes out(LISTING_ROOM);
-    out.resize(v.list(map.data(), map.size(), out.data()));
-    return out;
-}
-
-bool alike(const bytes &map)
-{
-    for (const version &v : versions)
-        if (text_by(v, map) != text_by(versions[0], map))
-            return false;
-    return true;
-}
-
-task listing_by(const version &v, const maps &all)
-{
-    return { [list = v.list, &all, out = bytes(LISTING_ROOM)]() mutable {
-                for (const bytes &map : all) {
-                    size_t length = list(map.data(), map.size(), out.data());
-                    sink = length + out[length / 2];
-                }
-            },
-             all.size() };
-}
 
 }  // namespace
 
 bool listings_agree(const bytes &map)
 {
-    bool good = alike(map);
-    for (const bytes &harmed : damaged(map))
-        good = good && alike(harmed);
+    bool good = texts_agree(versions, map);
     if (!good)
         std::printf("a listing differs\n");
     return good;
@@ -99,24 +67,17 @@ bool listings_agree(const bytes &map)
 
 task listing_task(const maps &all)
 {
-    return listing_by(versions[0], all);
+    return text_task(versions[0], all);
 }
 
 void show_listings(size_t m)
 {
     std::printf("\nlistings, %zu borders\n%-12s %12s %14s", m, "", "proved, us", "ns per place");
-    for (size_t i = 1; i < versions.size(); i++)
-        std::printf(" %14s", versions[i].name);
-    std::printf("\n");
+    show_others(versions);
     for (int k = 0; k < ALL_KINDS; k++) {
         maps all = make_maps(kind(k), m);
-        std::vector<task> tasks;
-        for (const version &v : versions)
-            tasks.push_back(listing_by(v, all));
-        std::vector<double> t = measure(tasks);
+        std::vector<double> t = measure_texts(versions, all);
         std::printf("%-12s %12.1f %14.1f", kind_names[k], t[0] / 1000, t[0] / double(2 * m));
-        for (size_t i = 1; i < t.size(); i++)
-            show_ratio(t[i] / t[0]);
-        std::printf("\n");
+        show_ratios(t);
     }
 }

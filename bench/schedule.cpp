@@ -6,6 +6,7 @@
 #include "pages.h"
 #include "parts.h"
 #include "pmap.h"
+#include "texts.h"
 
 // The proved schedule, in an archive of its own, target/staticlib/libscheduling.a: writes the text, or the line of a refusal, and
 // gives its length. `out` has room for SCHEDULE_ROOM bytes.
@@ -30,37 +31,17 @@ size_t single_calls_schedule(const uint8_t *map, size_t length, uint8_t *out)
     return end_pages(&p);
 }
 
-bytes text_by(text_call *whose, const bytes &map)
-{
-    bytes out(SCHEDULE_ROOM);
-    out.resize(whose(map.data(), map.size(), out.data()));
-    return out;
-}
-
-bool alike(const bytes &map)
-{
-    bytes proved = text_by(pmap_schedule_text, map);
-    return proved == text_by(single_calls_schedule, map) && proved == text_by(halfedge_schedule, map);
-}
-
-task schedule_by(text_call *whose, const maps &all)
-{
-    return { [=, &all, out = bytes(SCHEDULE_ROOM)]() mutable {
-                for (const bytes &map : all) {
-                    size_t length = whose(map.data(), map.size(), out.data());
-                    sink = length + out[length / 2];
-                }
-            },
-             all.size() };
-}
+const std::vector<text_version> versions = {
+    { "proved", pmap_schedule_text, SCHEDULE_ROOM },
+    { "single calls", single_calls_schedule, SCHEDULE_ROOM },
+    { "half-edges", halfedge_schedule, SCHEDULE_ROOM },
+};
 
 }  // namespace
 
 bool schedules_agree(const bytes &map)
 {
-    bool good = alike(map);
-    for (const bytes &harmed : damaged(map))
-        good = good && alike(harmed);
+    bool good = texts_agree(versions, map);
     if (!good)
         std::printf("a schedule differs\n");
     return good;
@@ -68,19 +49,18 @@ bool schedules_agree(const bytes &map)
 
 task schedule_task(const maps &all)
 {
-    return schedule_by(pmap_schedule_text, all);
+    return text_task(versions[0], all);
 }
 
 void show_schedules(size_t m)
 {
-    std::printf("\nschedules, %zu borders\n%-12s %9s %12s %14s %14s %14s\n", m, "", "areas", "proved, ns", "ns per area", "single calls", "half-edges");
+    std::printf("\nschedules, %zu borders\n%-12s %9s %12s %14s", m, "", "areas", "proved, ns", "ns per area");
+    show_others(versions);
     for (int k = 0; k < KINDS; k++) {
         maps all = make_maps(kind(k), m);
         size_t areas = m - points(all[0]) + 2;
-        std::vector<double> t = measure({ schedule_task(all), schedule_by(single_calls_schedule, all), schedule_by(halfedge_schedule, all) });
+        std::vector<double> t = measure_texts(versions, all);
         std::printf("%-12s %9zu %12.0f %14.1f", kind_names[k], areas, t[0], t[0] / double(areas));
-        show_ratio(t[1] / t[0]);
-        show_ratio(t[2] / t[0]);
-        std::printf("\n");
+        show_ratios(t);
     }
 }

@@ -1,7 +1,7 @@
 -- The running count of ones while a map is listed.
 --
--- counts-next  == a count is got from the one before and this place's bit
--- counts-rank  == it is the rank in A
+-- counts-next, rank-next == a count is got from the one before and this place's bit, and so is the rank in A
+-- counts-rank  == they are the same
 -- counts-le    == so no more than the places before
 -- running-rank == for every map listed: each line's rank in A is the count, and its bracket is found by it
 -- kind-read    == so is the kind that its line has

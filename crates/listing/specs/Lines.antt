@@ -15,13 +15,13 @@ use Rattle.listing.specs.declared.line.Line.{Line}
 unfoldable pub lineText : Line → List ℕ
 unfolding decimal
 lineText l =
-    decimal (l .place) ++ (space ∷ l .bracket ∷ space ∷ decimal (l .mate) ++ (space ∷ decimal (l .node) ++ (space ∷ decimal (l .area) ++ (lineFeed ∷ []))))
+    decimal (l .place .0) ++ (space ∷ l .bracket ∷ space ∷ decimal (l .mate .0) ++ (space ∷ decimal (l .node .0) ++ (space ∷ decimal (l .area .0) ++ (lineFeed ∷ []))))
 
 pub record Short (l : Line) : Type 0 where
-  pub place : l .place < 10000
-  pub mate : l .mate < 10000
-  pub node : l .node < 10000
-  pub area : l .area < 10000
+  pub place : l .place .0 < 10000
+  pub mate : l .mate .0 < 10000
+  pub node : l .node .0 < 10000
+  pub area : l .area .0 < 10000
 
 pub record Says (s : List ℕ) (p : ℕ) (l : Line) : Type 0 where
   pub text : lineText l ≡ placeLine (wordIn s) p

@@ -8,8 +8,13 @@
 // after it stay as they were. The memory has the room of the longest listing: a heading of 26 bytes
 // and 4,096 lines of at most 22. No function asks anything of its caller.
 //
-// The source is document 01, "Listing". The definitions that the contracts cite are those of the crate
-// `text`, and `printed` in specs/Printed.antt.
+// One pass over the map finds the mate, the point and the area of every place (the crate `surveying`);
+// then one loop writes the lines, with the running count of the marked places. So the time is in
+// proportion to the map.
+//
+// The source is document 01, "Listing", and document 02, 5/14. The definitions that the contracts cite
+// are those of the crate `text`, and `printed` in specs/Printed.antt. specs/Running.antt has the running
+// count, and what is shown of it for every map listed; proofs/Running.antt shows it (`running-rank`).
 mod line;
 mod lines;
 mod print;

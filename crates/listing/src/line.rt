@@ -1,4 +1,7 @@
 // One line of a listing: what it says, and its text.
+use opening::Area;
+use opening::Place;
+use opening::Point;
 use printing::put_byte;
 use printing::put_number;
 ghost use mathlib.Core.List.{[], _∷_};
@@ -10,11 +13,11 @@ ghost use Rattle.listing.specs.Lines.{Short, lineText};
 
 // What the line of a place says. `bracket` is the byte of its kind.
 pub struct Line {
-    pub place: usize,
+    pub place: Place,
     pub bracket: u8,
-    pub mate: usize,
-    pub node: usize,
-    pub area: usize,
+    pub mate: Place,
+    pub node: Point,
+    pub area: Area,
 }
 
 // The text of a line, at most 22 bytes, from byte `at` on. The byte after it.
@@ -22,11 +25,11 @@ pub fn put_line(out: &mut [u8], at: usize, line: Line) -> usize
     requires { ⌜ Short line × (at + 22 ≤ length (now out)) ⌝ }
     ensures { λ r. ⌜ Wrote (now (out .entry)) at (lineText line) r (now (out .exit)) × (r ≤ at + 22) ⌝ }
 {
-    let a = put_number(out, at, line.place, b' ');
+    let a = put_number(out, at, line.place.0, b' ');
     let b = put_kind(out, a, line.bracket);
-    let c = put_number(out, b, line.mate, b' ');
-    let d = put_number(out, c, line.node, b' ');
-    put_number(out, d, line.area, b'\n')
+    let c = put_number(out, b, line.mate.0, b' ');
+    let d = put_number(out, c, line.node.0, b' ');
+    put_number(out, d, line.area.0, b'\n')
 }
 
 // The kind, and a space.

@@ -8,6 +8,7 @@ use bits::bit;
 use layout::bits_a;
 use layout::part_a;
 use layout::part_b;
+use opening::Place;
 use surveying::area_in;
 use surveying::crossing_in;
 use surveying::point_in;
@@ -92,10 +93,10 @@ fn line_at(map: &[u8], mates: &[u16], areas: &[u16], points: &[u16], p: usize, b
     let node = point_in(map, points, p);
     let area = area_in(map, areas, p);
     Line {
-        place: p + 1,
+        place: Place(p + 1),
         bracket: bracket,
-        mate: mate,
-        node: node.0,
-        area: area.0,
+        mate: Place(mate),
+        node: node,
+        area: area,
     }
 }

@@ -1,4 +1,5 @@
 -- `listing::lines::line_at` meets its contract. Assumes nothing.
+use mathlib.Core.Path.{refl}
 use Rattle.listing.proofs.Listed.{line-says}
 use borrow.Author.Needs.{needs}
 use Rattle.listing.proofs.lines.line_at.Statement.{statement}
@@ -20,7 +21,12 @@ add-t10 : tie.Need-add-t10
 add-t10 c = search needs
 
 returns : tie.Need-returns
-returns c = search line-says
+returns c =
+    let point = c .before in
+    let cross = point .before in
+    let start = cross .before .before .before .before .before in
+    line-says _ _ (cross .crossing-in .result) _ (start .pre .0 .0) (start .pre .0 .1) refl (cross .crossing-in .ensures .0) (cross .crossing-in .ensures .1) refl
+    (point .point-in .ensures) (c .area-in .ensures)
 
 pub line-at-spec : {M : Type 1} → statement M
 line-at-spec =

@@ -1,4 +1,5 @@
--- `listing::lines::put_surveyed` meets its contract. Assumes nothing.
+-- `listing::lines::put_surveyed` meets its contract. The loop keeps `Lined`: the lines of the first p places stand, and `ones` is the
+-- running count of `running-rank`. Assumes nothing.
 use Prim.Native.Nat.{_-_}
 use borrow.Author.Needs.{needs}
 use Rattle.listing.proofs.Running.{counts-le, kind-read}
@@ -72,7 +73,14 @@ loop-less : tie.Need-loop-less Inv-loop μ-loop
 loop-less c = search needs
 
 loop-again : tie.Need-loop-again Inv-loop μ-loop
-loop-again c = search lined-step
+loop-again c =
+    let put = c .before .before in
+    let line = put .before .before in
+    let marked = line .before .before .before .before .before .before .before in
+    let loop = marked .before in
+    let strings = loop .before .before in
+    lined-step _ _ _ _ _ _ _ _ (loop .before .loop .inv) _ _ _ _ _ (loop .loop-test .taken) (strings .before .before .before .part-a .ensures) (marked .bit .ensures .0)
+    (line .line-at .ensures) (put .put-line .ensures .0) (put .put-line .ensures .1) (search needs)
 
 same-length : tie.Need-same-length Inv-loop μ-loop
 same-length c = search needs
