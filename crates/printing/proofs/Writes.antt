@@ -4,13 +4,14 @@
 -- wrote-then       == a text and another after it
 -- wrote-as         == an equal text
 -- Copying          == what the loop of `put_text` keeps: the first i bytes stand
--- more-digits      == a number of 10 or more has a digit more than its tenth
--- digits-1, digits-2, digits-3, digits-4 == how many digits a number has
+-- one-digit, more-digits == a number below 10 has one digit, another has one more than its tenth
+-- digits-are       == how many digits a number has between two powers of ten
 -- number-room, number-last, number-wrote == a number of at most four digits, and the byte after it
 -- Assumes nothing.
 use mathlib.Core.Path.{_≡_, refl, sym, ap, _∙_}
 use mathlib.Core.List.{List, [], _∷_, _++_, append-assoc}
-use Prim.Native.Nat.{ℕ, _+_, _-_, _/_, _%_, _<_, _≤_}
+use Prim.Native.Nat.{ℕ, zero, suc, _+_, _-_, _*_, _/_, _%_, _^_, _<_, _≤_}
+use native.Mathlib.Nat.{pow-succ'}
 use native.Mathlib.Omega.{arith}
 use native.Mathlib.Numerals.{add-one}
 use lib.ListN.{length, take, drop, set, getD, length-append, length-set, take-append-drop}
@@ -95,21 +96,18 @@ module _ (old text : List ℕ) (at : ℕ) where
 pub ruleset copy-all = (wrote-byte, copy-start, copy-step, copy-end, needs)
 
 -- ---- decimal numbers
-module _ (x : ℕ) where
-  pub digits-1 : x < 10 → 1 ≡ length (decimal x)
-  digits-1 h = sym (ap length (decimal-small x h))
+pub one-digit : (x : ℕ) → x < 10 → 1 ≡ length (decimal x)
+one-digit x h = sym (ap length (decimal-small x h))
 
-  pub more-digits : 10 ≤ x → length (decimal x) ≡ length (decimal (x / 10)) + 1
-  more-digits h = ap length (decimal-more x h) ∙ length-append (decimal (x / 10)) ((zeroByte + x % 10) ∷ [])
+pub more-digits : (x : ℕ) → 10 ≤ x → length (decimal x) ≡ length (decimal (x / 10)) + 1
+more-digits x h = ap length (decimal-more x h) ∙ length-append (decimal (x / 10)) ((zeroByte + x % 10) ∷ [])
 
-pub digits-2 : (x : ℕ) → 10 ≤ x → x < 100 → 2 ≡ length (decimal x)
-digits-2 x g l = omega (arith, more-digits x g, digits-1 (x / 10) (omega arith))
-
-pub digits-3 : (x : ℕ) → 100 ≤ x → x < 1000 → 3 ≡ length (decimal x)
-digits-3 x g l = omega (arith, more-digits x (omega arith), digits-2 (x / 10) (omega arith) (omega arith))
-
-pub digits-4 : (x : ℕ) → 1000 ≤ x → x < 10000 → 4 ≡ length (decimal x)
-digits-4 x g l = omega (arith, more-digits x (omega arith), digits-3 (x / 10) (omega arith) (omega arith))
+pub digits-are : (n x : ℕ) → 10 ^ suc n ≤ x → x < 10 ^ suc (suc n) → suc (suc n) ≡ length (decimal x)
+digits-are zero x g l = omega (arith, more-digits x g, one-digit (x / 10) (omega arith))
+digits-are (suc n) x g l =
+    let p : 10 ^ suc (suc n) ≡ 10 * 10 ^ suc n = pow-succ' 10 (suc n) in
+    let q : 10 ^ suc (suc (suc n)) ≡ 10 * 10 ^ suc (suc n) = pow-succ' 10 (suc (suc n)) in
+    omega (arith, more-digits x (omega arith), digits-are n (x / 10) (omega arith) (omega arith))
 
 -- ---- a number, and the byte after it
 module _ (x at d : ℕ) (old : List ℕ) (few : x < 10000) (h : at + 5 ≤ length old) (e : d ≡ length (decimal x)) where
