@@ -2,7 +2,7 @@
 --
 -- passes-toured    == its tour meets all ends, and borders of one kind nest
 -- passes-fits      == its word fits m and n
--- packed-opens, packed-map, packed-size == its bytes pass 8 to 12, are a byte string that opens, and have m and n
+-- packed-opens, packed-map, packed-size == its bytes pass opening's checks, are a byte string that opens, and have m and n
 -- Assumes nothing.
 use mathlib.Core.Path.{_≡_, refl, sym, _∙_}
 use mathlib.Core.Logic.{inl, inr}

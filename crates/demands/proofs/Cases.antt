@@ -14,10 +14,10 @@ abbrev triangle : Drawing
 triangle = lent (5 ∷ 2 ∷ 1 ∷ 4 ∷ 3 ∷ 0 ∷ []) (1 ∷ 1 ∷ 0 ∷ []) 0
 
 abbrev stubMap : List ℕ
-stubMap = 0x01 ∷ 0x00 ∷ 0x02 ∷ 0x00 ∷ 0x03 ∷ 0x02 ∷ []
+stubMap = 0x01 ∷ 0x00 ∷ 0x02 ∷ 0x00 ∷ 0x01 ∷ 0x00 ∷ 0x03 ∷ 0x02 ∷ []
 
 pub record Cases : Type 0 where
-  pub triangle-bytes : turanBytes triangle ≡ 0x03 ∷ 0x00 ∷ 0x03 ∷ 0x00 ∷ 0x1B ∷ 0x0C ∷ 0x02 ∷ []
+  pub triangle-bytes : turanBytes triangle ≡ 0x03 ∷ 0x00 ∷ 0x03 ∷ 0x00 ∷ 0x02 ∷ 0x00 ∷ 0x1B ∷ 0x0C ∷ 0x02 ∷ []
   -- lists that are longer than they need be
   pub stub-left : leftIn stubMap (7 ∷ 7 ∷ 7 ∷ []) (7 ∷ 7 ∷ []) ≡ lent (0 ∷ 1 ∷ []) (1 ∷ []) 0
   -- (b): "turn of 1 is 0"

@@ -2,23 +2,24 @@
 -- an answer of packing, or with a byte string that opens.
 --
 -- pack-refusals  == packing gives the number of the first of checks 1 to 7 that fails, and answers exactly if none does
--- open-refusals  == the same of opening and checks 8 to 12
+-- open-refusals  == the same of opening and its checks 8, 20 and 9 to 12
+-- one-form       == no byte string opens both with the count of areas and without it, and what a program gives for a card of the other form
 -- demand-2       == packing writes exactly Turán's three strings, and gives 7 exactly where two unmarked borders alternate; every
 --                   byte string that opens unpacks to a drawing that packs to the same bytes, and unpacking what packing wrote
 --                   gives the drawing renumbered. Its parts are demand-2-pack and demand-2-round-trip.
 -- demand-3       == whatever packing answers agrees with the drawing's book: every session, every answer about point and area
 --                   numbers, every factor of an area, one number for one point (area), where turns end, how many points and
---                   areas there are and which numbers they have, and the printed schedule
+--                   areas there are, that the card's count is theirs, which numbers they have, and the printed schedule
 -- every-map      == the same of every byte string that opens, with the book of its unpacked drawing
 -- unpacked-agrees == the same of every byte string that opens and whatever unpacking it answers
 -- packed-agrees  == the same of the bytes of a drawing that passes 1 to 7. Its parts are demand-3-sessions, demand-3-numbers,
---                   demand-3-factors, same-point, same-area, turn-zero, areas-count, has-number and schedule-book.
+--                   demand-3-factors, same-point, same-area, turn-zero, areas-count, written-count, has-number and schedule-book.
 -- factor-agrees  == whatever packing answers gives every area the book's factor, for every pair of lists: demand 3's part of 02, 4/14
 -- Assumes nothing.
 use mathlib.Core.Path.{_≡_, refl, sym, ap, _∙_, subst}
 use mathlib.Core.Bool.{Bool, true, false, _&&_}
 use mathlib.Core.List.{List}
-use Prim.Native.Nat.{ℕ, _*_, _≤_, _<_}
+use Prim.Native.Nat.{ℕ, _+_, _-_, _*_, _≤_, _<_}
 use native.Mathlib.Omega.{arith}
 use lib.Ieee.{Float}
 use lib.ListN.{length, take, drop}
@@ -27,14 +28,14 @@ use Rattle.count.specs.Below.{pick}
 use lib.Dec.{leb}
 use borrow.Author.Tests.{le-leb}
 use Rattle.count.proofs.Logic.{both, pick-yes}
-use Rattle.drawing.specs.Drawing.{Drawing, Kind, borders, ends}
+use Rattle.drawing.specs.Drawing.{Drawing, Kind, borders, cells, ends}
 use Rattle.drawing.specs.Checks.{crosses, firstCrossing, FirstCrossing, PassesSix, PassesSeven}
 use Rattle.drawing.proofs.Crossing.{first-crossing}
 use Rattle.drawing.specs.Laid.{turningAfter, marksAfter}
 use Rattle.drawing.specs.Renumbered.{renumbered}
 use Rattle.drawing.specs.Session.{Answer, answer, refusedWith, refused, numberOf}
 use Rattle.drawing.specs.Book.{bookAnswer, bookSession}
-use Rattle.format.specs.Bytes.{Size, sizeIn, mapLength, wordIn}
+use Rattle.format.specs.Bytes.{Size, areasOf, sizeIn, writtenAreas, mapLength, wordIn}
 use Rattle.format.specs.Open.{openRefusal, Opens, openOf}
 use Rattle.format.specs.Calls.{pointOf, areaOf, mapSession, mapAnswer}
 use Rattle.format.specs.Pack.{wordOf, sizeFor, packedBytes, Room, packRefusal, packCarries, packOf, drawingOf, unpackOf}
@@ -44,6 +45,7 @@ use Rattle.format.proofs.Passes.{opens-passes}
 use Rattle.format.proofs.Refusals.{carries-none, pack-accepts, pack-crosses}
 pub use Rattle.format.proofs.Passes.{open-refusals}
 pub use Rattle.format.proofs.Refusals.{pack-refusals}
+pub use Rattle.format.proofs.OneForm.{one-form}
 use Rattle.format.proofs.Decode.{passes-nested, opens-encode}
 use Rattle.format.proofs.Encode.{fits-lengths}
 use Rattle.format.proofs.Parts.{map-length}
@@ -262,11 +264,21 @@ module _ (D : Drawing) (seven : PassesSeven D) where
   pub has-number : (c : Kind) → HasNumber D c
   has-number = known-numbers (passes-toured D seven)
 
+  pub written-count : writtenAreas (packedBytes D) ≡ cells D Kind.area
+  written-count =
+      opens-passes (packedBytes D) (packed-opens D seven) .written
+      ∙ ap areasOf (packed-size D seven)
+      ∙ counted (cells D Kind.area) (cells D Kind.point) (borders D) (areas-count .areas)
+    where
+      counted : (f n m : ℕ) → f + n ≡ m + 2 → m + 2 - n ≡ f
+      counted f n m e = omega arith
+
   pub packed-agrees : Agrees D (packedBytes D)
   packed-agrees =
       record {
         opens = packed-map D seven;
         size = packed-open-of;
+        written = written-count;
         sessions = demand-3-sessions;
         numbers = demand-3-numbers;
         factors = demand-3-factors;

@@ -11,9 +11,9 @@ use Rattle.count.proofs.Lists.{table-same, gather-same}
 use Rattle.words.specs.declared.family.Family.{Family}
 use Rattle.words.specs.declared.family.Family.the-variants.{Round as round, Square as square}
 use Rattle.words.specs.Word.{sameFamily}
-use Rattle.drawing.specs.Drawing.{Drawing, Kind, borders, ends, cells, isSecond}
-use Rattle.format.specs.Bytes.{le16, bytesOf, closingBit, familyBit, mapBytes, stringA, stringB}
-use Rattle.format.specs.Pack.{wordOf, packedBytes}
+use Rattle.drawing.specs.Drawing.{Drawing, ends, isSecond}
+use Rattle.format.specs.Bytes.{headerOf, bytesOf, closingBit, familyBit, mapBytes, stringA, stringB}
+use Rattle.format.specs.Pack.{wordOf, sizeFor, packedBytes}
 use Rattle.demands.specs.Statements.{markedAt, turanBytes}
 
 -- the letter of a marked place is round, that of an unmarked one square
@@ -33,8 +33,7 @@ pub turan-packed : (D : Drawing) → turanBytes D ≡ packedBytes D
 unfolding turanBytes packedBytes mapBytes stringA stringB wordOf
 turan-packed D =
     let second : ℕ → ℕ = λ p. closingBit (isSecond D p) in
-    let a : List ℕ → List ℕ → List ℕ → List ℕ =
-    λ x y z. le16 (borders D) ++ (le16 (cells D Kind.point) ++ (bytesOf x ++ (bytesOf y ++ bytesOf z))) in
+    let a : List ℕ → List ℕ → List ℕ → List ℕ = λ x y z. headerOf (sizeFor D) ++ (bytesOf x ++ (bytesOf y ++ bytesOf z)) in
     let A = table-same (λ p. closingBit (markedAt D p)) (λ p. familyBit (pick (markedAt D p) round square)) (ends D) (λ p l. family-bit (markedAt D p)) in
     let B = gather-same (markedAt D) (λ p. sameFamily round (pick (markedAt D p) round square)) second second (ends D)
     (λ p l. round-test (markedAt D p)) (λ p l. refl) in

@@ -35,7 +35,7 @@ use Rattle.drawing.specs.Laid.{lent, turningAfter, marksAfter}
 use Rattle.drawing.specs.Checks.{PassesSix, PassesSeven, Crossing, firstCrossing, FirstCrossing}
 use Rattle.drawing.specs.Session.{Answer, answer, refusedWith, numberOf, Call}
 use Rattle.drawing.specs.Book.{bookSession, bookFirst, bookSize, bookNeighbours, bookJoining, numberAt, hasNumber, endsOn}
-use Rattle.format.specs.Bytes.{Size, sizeIn, wordIn, le16, bytesOf, closingBit, longest, mapLength}
+use Rattle.format.specs.Bytes.{Size, headerOf, sizeIn, writtenAreas, wordIn, bytesOf, closingBit, longest, mapLength}
 use Rattle.format.specs.Open.{Opens, openOf}
 use Rattle.format.specs.Calls.{mapSession, turnOf, turnBackOf, pointOf, areaOf, firstOf, sizeOf, neighboursOf, joiningOf}
 use Rattle.format.specs.Pack.{Room, sizeFor, packedBytes, packOf, unpackOf}
@@ -48,15 +48,14 @@ markedAt D p = isMarked D (border (endAt D p))
 
 -- 01: "A: bit i is 1 if place i is of a marked border. B: for the marked places in order, 0 at a border's first place, 1 at its
 -- second. B* is the same for the unmarked ones. Bytes: m, then n, each two bytes, low byte first. Then A, B and B*, each from a
--- fresh byte, first bit in the lowest bit, unused bits 0."
+-- fresh byte, first bit in the lowest bit, unused bits 0." 02, 6/14: "Two bytes, low first, follow n and hold m-n+2."
 unfoldable pub turanBytes : Drawing → List ℕ
 unfolding table gather isMarked border endAt isSecond ends borders cells bytesOf
 turanBytes D =
-    le16 (borders D)
-    ++ (le16 (cells D Kind.point)
+    headerOf (sizeFor D)
     ++ (bytesOf (table (λ p. closingBit (markedAt D p)) (ends D))
     ++ (bytesOf (gather (markedAt D) (λ p. closingBit (isSecond D p)) (ends D))
-    ++ bytesOf (gather (λ p. not (markedAt D p)) (λ p. closingBit (isSecond D p)) (ends D)))))
+    ++ bytesOf (gather (λ p. not (markedAt D p)) (λ p. closingBit (isSecond D p)) (ends D))))
 
 -- Demand 2: "Packing writes exactly Turán's three strings for the drawing's tour, and reports a crossing exactly when two
 -- unmarked borders alternate in it, the earlier checks being passed." 02, 2/14: it then carries the first pair that does (`pair`,
@@ -154,12 +153,14 @@ pub record HasNumber (D : Drawing) (c : Kind) : Type 0 where
   pub alone : borders D ≡ 0 → (k : ℕ) → (hasNumber D c k ≡ true) ↔ (k ≡ 1)
 
 -- Demand 3, whole. 01: "Demand 3 is one statement about the whole list"; it "covers counts and searches". The map s is a
--- byte string that opens, with the drawing's m and n. With the answers of document 01 go the factors of document 02, 4/14. Beside
+-- byte string that opens, with the drawing's m and n; the count written in its header is the number of the drawing's area walks
+-- (02, 6/14: "Card makers want to read the number of areas without arithmetic"). With the answers of document 01 go the factors of document 02, 4/14. Beside
 -- them stands what document 01 says of the numbers and of the zeros among them, and the printed schedule of document 02, 1/14: it is
 -- made of the book's numbers.
 pub record Agrees (D : Drawing) (s : List ℕ) : Type 0 where
   pub opens : Opens s
   pub size : openOf s ≡ answer (sizeFor D)
+  pub written : writtenAreas s ≡ cells D Kind.area
   pub sessions : Sessions D s
   pub numbers : Numbers D s
   pub factors : Factors D s

@@ -1,75 +1,105 @@
 -- Chains of checks: the number that comes out is that of the first check that fails.
 --
--- chain ts a       == the number of the first test of ts that fails, the tests numbered from a on; 0 where none does
--- Chain P a ts     == the tests decide P a, P (a + 1) and so on, each where those before it hold
--- hold-none, hold-from == what holds of all checks from a on, one check after the other
+-- chain ks ts      == the number of the first test of ts that fails, the tests having the numbers ks; 0 where none does
+-- Chain P ks ts    == the tests decide the checks ks, each where those before it hold, and no check has the number 0
+-- Each P ks        == all checks ks hold, one after the other
+-- each-hold        == and so they hold where others follow
+-- one-first        == there is only one first check that fails
 -- chain-zero       == no number comes out exactly if all checks hold
+-- chain-append, chain-later == checks of a call's own, after others that run first: one chain of both
 -- chain-in-order   == a call answered after the chain gives the refusal of the first check that fails, with what it carries, or its answer
 -- Assumes nothing.
 use mathlib.Core.Path.{_≡_, refl, sym, ap, _∙_, subst}
-use mathlib.Core.Logic.{_≢_, _⊎_, inl, inr, _↔_}
+use mathlib.Core.Logic.{_⊎_, inl, inr, _↔_}
 use mathlib.Core.Bool.{Bool, true, false}
-use mathlib.Core.List.{List, [], _∷_}
-use Prim.Native.Nat.{ℕ, zero, suc, _+_, _≤_, _<_}
+use mathlib.Core.List.{List, [], _∷_, _++_}
+use Prim.Native.Nat.{ℕ, zero, suc, _<_}
 use native.Mathlib.Omega.{arith}
-use lib.ListN.{length}
+use lib.ListN.{length, getD}
 use Rattle.count.specs.Below.{Decides}
-use Rattle.count.proofs.Logic.{same-or-not, lt-or-ge}
+use Rattle.count.proofs.Logic.{lt-or-ge}
 use Rattle.count.proofs.Decides.{decides-refutes}
 use Rattle.drawing.specs.Session.{Answer, answer, refusedWith}
-use Rattle.format.specs.Refusals.{FirstFails, InOrder}
-use Rattle.format.specs.Open.{unless, afterRefusalWith}
+use Rattle.format.specs.Refusals.{Hold, FirstFails, InOrder}
+use Rattle.format.specs.Open.{unless, afterRefusalWith, afterRefusal}
 
-unfoldable pub chain : List Bool → ℕ → ℕ
-chain [] a = 0
-chain (t ∷ ts) a = unless t a (chain ts (suc a))
+unfoldable pub chain : List ℕ → List Bool → ℕ
+chain [] ts = 0
+chain (k ∷ ks) [] = 0
+chain (k ∷ ks) (t ∷ ts) = unless t k (chain ks ts)
 
-abbrev pub Chain : (ℕ → Type 0) → ℕ → List Bool → Type 0
-Chain P a [] = Unit
-Chain P a (t ∷ ts) = Decides t (P a) × (P a → Chain P (suc a) ts)
+abbrev pub Chain : (ℕ → Type 0) → List ℕ → List Bool → Type 0
+Chain P [] ts = Unit
+Chain P (k ∷ ks) [] = ⊥
+Chain P (k ∷ ks) (t ∷ ts) = (0 < k) × Decides t (P k) × (P k → Chain P ks ts)
 
--- all checks from a up to e, without e
-abbrev pub Hold : (ℕ → Type 0) → ℕ → ℕ → Type 0
-Hold P a e = (j : ℕ) → a ≤ j → j < e → P j
+abbrev pub Each : (ℕ → Type 0) → List ℕ → Type 0
+Each P [] = Unit
+Each P (k ∷ ks) = P k × Each P ks
 
 module _ (P : ℕ → Type 0) where
-  pub hold-none : (a e : ℕ) → e ≤ a → Hold P a e
-  hold-none a e l j h k = absurd (omega arith)
+  hold-none : (ks : List ℕ) → Hold P ks 0
+  hold-none ks i l = absurd (omega arith)
 
-  pub hold-from : (a e : ℕ) → P a → Hold P (suc a) e → Hold P a e
-  hold-from a e p rest j h k = elim (same-or-not a j) [ inl q ↦ subst P q p | inr n ↦ rest j (omega arith) k ]
+  hold-from : (k : ℕ) (ks : List ℕ) (e : ℕ) → P k → Hold P ks e → Hold P (k ∷ ks) (suc e)
+  hold-from k ks e p rest zero l = p
+  hold-from k ks e p rest (suc i) l = rest i (omega arith)
+
+  pub each-hold : (ks js : List ℕ) → Each P ks → Hold P (ks ++ js) (length ks)
+  each-hold [] js h = hold-none js
+  each-hold (k ∷ ks) js h = hold-from k (ks ++ js) (length ks) (h .0) (each-hold ks js (h .1))
 
   -- no check fails, or one is the first that does
-  pub first-failing : (a : ℕ) (ts : List Bool) → Chain P a ts
-      → ((chain ts a ≡ 0) × Hold P a (a + length ts)) ⊎ ((a ≤ chain ts a) × (chain ts a < a + length ts) × FirstFails P a (chain ts a))
+  first-failing : (ks : List ℕ) (ts : List Bool) → Chain P ks ts
+      → ((chain ks ts ≡ 0) × Hold P ks (length ks)) ⊎ ((0 < chain ks ts) × FirstFails P ks (chain ks ts))
   unfolding chain
-  first-failing a [] c = inl (refl, hold-none a (a + 0) (omega arith))
-  first-failing a (true ∷ ts) c =
-      let p : P a = c .0 .sound refl in
-      elim (first-failing (suc a) ts (c .1 p)) [
-        | inl z ↦ inl (z .0, hold-from a (a + suc (length ts)) p (λ j h k. z .1 j h (omega arith)))
+  first-failing [] ts c = inl (refl, hold-none [])
+  first-failing (k ∷ ks) [] c = absurd c
+  first-failing (k ∷ ks) (true ∷ ts) c =
+      let p : P k = c .1 .sound refl in
+      elim (first-failing ks ts (c .2 p)) [
+        | inl z ↦ inl (z .0, hold-from k ks (length ks) p (z .1))
         | inr z ↦
-            let F : FirstFails P (suc a) (chain ts (suc a)) = z .2 in
-            inr (omega (arith, z .0), omega (arith, z .1), record { before = hold-from a (chain ts (suc a)) p (F .before); fails = F .fails })
+            let F : FirstFails P ks (chain ks ts) = z .1 in
+            inr (
+              z .0,
+              record {
+                at = suc (F .at);
+                within = omega (arith, F .within);
+                is = F .is;
+                before = hold-from k ks (F .at) p (F .before);
+                fails = F .fails;
+              },
+            )
       ]
-  first-failing a (false ∷ ts) c =
-      inr (omega arith, omega arith, record { before = hold-none a a (omega arith); fails = decides-refutes (c .0) refl })
+  first-failing (k ∷ ks) (false ∷ ts) c =
+      inr (
+        c .0,
+        record { at = 0; within = omega arith; is = refl; before = hold-none (k ∷ ks); fails = decides-refutes (c .1) refl },
+      )
 
-  -- there is only one first check that fails
-  one-first : (a j k : ℕ) → a ≤ j → a ≤ k → FirstFails P a j → FirstFails P a k → j ≡ k
-  one-first a j k lj lk F G =
-      elim (lt-or-ge j k) [
-        | inl l ↦ absurd (F .fails (G .before j lj l))
-        | inr g ↦ elim (lt-or-ge k j) [ inl l ↦ absurd (G .fails (F .before k lk l)) | inr h ↦ omega arith ]
+  -- where all checks hold, none fails
+  none-fails : (ks : List ℕ) (k : ℕ) → Hold P ks (length ks) → FirstFails P ks k → ⊥
+  none-fails ks k all F = F .fails (subst P (F .is) (all (F .at) (F .within)))
+
+  pub one-first : (ks : List ℕ) (j k : ℕ) → FirstFails P ks j → FirstFails P ks k → j ≡ k
+  one-first ks j k F G =
+      elim (lt-or-ge (F .at) (G .at)) [
+        | inl l ↦ absurd (F .fails (subst P (F .is) (G .before (F .at) l)))
+        | inr g ↦
+            elim (lt-or-ge (G .at) (F .at)) [
+              | inl l ↦ absurd (G .fails (subst P (G .is) (F .before (G .at) l)))
+              | inr h ↦
+                  let e : F .at ≡ G .at = omega arith in
+                  sym (F .is) ∙ ap (λ i. getD ks i 0) e ∙ G .is
+            ]
       ]
 
-  pub chain-zero : (a : ℕ) (ts : List Bool) → 0 < a → Chain P a ts → (chain ts a ≡ 0) ↔ Hold P a (a + length ts)
-  chain-zero a ts pos c =
-      elim (first-failing a ts c) [
+  pub chain-zero : (ks : List ℕ) (ts : List Bool) → Chain P ks ts → (chain ks ts ≡ 0) ↔ Hold P ks (length ks)
+  chain-zero ks ts c =
+      elim (first-failing ks ts c) [
         | inl z ↦ (λ e. z .1, λ h. z .0)
-        | inr z ↦
-            let F : FirstFails P a (chain ts a) = z .2 in
-            (λ e. absurd (omega (arith, z .0)), λ h. absurd (F .fails (h (chain ts a) (z .0) (z .1))))
+        | inr z ↦ (λ e. absurd (omega (arith, z .0)), λ h. absurd (none-fails ks (chain ks ts) h (z .1)))
       ]
 
 -- what comes after a number, and after none
@@ -88,35 +118,49 @@ after-refused : {A : Type 0} (k j : ℕ) (xs ys : List ℕ) (a : A) → afterRef
 after-refused zero j xs ys a e = let z : _≡_ {A = ℕ} 0 1 = cc in absurd (omega arith)
 after-refused (suc k) j xs ys a e = (omega arith, cc, cc)
 
-pub chain-in-order : {A : Type 0} (carries : ℕ → List ℕ) (P : ℕ → Type 0) (a e : ℕ) (ts : List Bool) (v : A)
-    → 0 < a → a + length ts ≡ suc e → Chain P a ts
-    → InOrder carries P a e v (afterRefusalWith (chain ts a) (carries (chain ts a)) (answer v))
-chain-in-order carries P a e ts v pos long c =
-    let none : (chain ts a ≡ 0) ↔ Hold P a (a + length ts) = chain-zero P a ts pos c in
-    let k₀ : ℕ = chain ts a in
+-- checks js of a call's own come after the checks ks
+pub chain-append : (P : ℕ → Type 0) (ks js : List ℕ) (ts us : List Bool) → Chain P ks ts → length ks ≡ length ts → Chain P js us
+    → Chain P (ks ++ js) (ts ++ us)
+chain-append P [] js [] us c e d = d
+chain-append P [] js (t ∷ ts) us c e d = absurd (omega arith)
+chain-append P (k ∷ ks) js [] us c e d = absurd (omega arith)
+chain-append P (k ∷ ks) js (t ∷ ts) us c e d = (c .0, c .1, λ p. chain-append P ks js ts us (c .2 p) (omega arith) d)
+
+pub chain-later : {A : Type 0} (P : ℕ → Type 0) (ks js : List ℕ) (ts us : List Bool) (a : Answer A) → Chain P ks ts → length ks ≡ length ts
+    → afterRefusal (chain ks ts) (afterRefusal (chain js us) a) ≡ afterRefusal (chain (ks ++ js) (ts ++ us)) a
+unfolding chain
+chain-later P [] js [] us a c e = refl
+chain-later P [] js (t ∷ ts) us a c e = absurd (omega arith)
+chain-later P (k ∷ ks) js [] us a c e = absurd (omega arith)
+chain-later P (k ∷ ks) js (true ∷ ts) us a c e = chain-later P ks js ts us a (c .2 (c .1 .sound refl)) (omega arith)
+chain-later P (zero ∷ ks) js (false ∷ ts) us a c e = absurd (omega (arith, c .0))
+chain-later P (suc k ∷ ks) js (false ∷ ts) us a c e = refl
+
+pub chain-in-order : {A : Type 0} (carries : ℕ → List ℕ) (P : ℕ → Type 0) (ks : List ℕ) (ts : List Bool) (v : A) → Chain P ks ts
+    → InOrder carries P ks v (afterRefusalWith (chain ks ts) (carries (chain ks ts)) (answer v))
+chain-in-order carries P ks ts v c =
+    let none : (chain ks ts ≡ 0) ↔ Hold P ks (length ks) = chain-zero P ks ts c in
+    let k₀ : ℕ = chain ks ts in
     record {
       refuses = λ k xs. (
         λ r.
             let n = after-refused k₀ k (carries k₀) xs v r in
-            elim (first-failing P a ts c) [
+            elim (first-failing P ks ts c) [
               | inl z ↦ absurd (omega (arith, z .0, n .0))
-              | inr z ↦
-                  let f : (a ≤ k) × (k ≤ e) × FirstFails P a k
-                  = subst (λ j. (a ≤ j) × (j ≤ e) × FirstFails P a j) (n .1) (z .0, omega (arith, z .1), z .2) in
-                  (f .0, f .1, f .2, sym (n .2) ∙ ap carries (n .1))
+              | inr z ↦ (subst (FirstFails P ks) (n .1) (z .1), sym (n .2) ∙ ap carries (n .1))
             ],
         λ f.
-            elim (first-failing P a ts c) [
-              | inl z ↦ absurd (f .2 .fails (z .1 k (f .0) (omega (arith, f .1))))
+            elim (first-failing P ks ts c) [
+              | inl z ↦ absurd (none-fails P ks k (z .1) (f .0))
               | inr z ↦
-                  let same : k₀ ≡ k = one-first P a k₀ k (z .0) (f .0) (z .2) (f .2) in
-                  after-some k₀ (carries k₀) (answer v) (omega (arith, z .0))
+                  let same : k₀ ≡ k = one-first P ks k₀ k (z .1) (f .0) in
+                  after-some k₀ (carries k₀) (answer v) (z .0)
                   ∙ ap (λ j. refusedWith j (carries j)) same
-                  ∙ ap (refusedWith k) (sym (f .3))
+                  ∙ ap (refusedWith k) (sym (f .1))
             ],
       );
       answers = (
-        λ r k l h. none .0 (after-answer k₀ (carries k₀) v v r .0) k l (omega arith),
-        λ all. after-zero k₀ (carries k₀) (answer v) (none .1 (λ k l h. all k l (omega arith))),
+        λ r. none .0 (after-answer k₀ (carries k₀) v v r .0),
+        λ all. after-zero k₀ (carries k₀) (answer v) (none .1 all),
       );
     }

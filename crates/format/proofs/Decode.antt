@@ -1,4 +1,4 @@
--- The word that bytes hold: families, strings and brackets, and that bytes which pass checks 8 to 12 are its bytes.
+-- The word that bytes hold: families, strings and brackets, and that bytes which pass opening's checks are its bytes.
 --
 -- family-tests      == the test of a position's family is a test of its bit in A
 -- family-in, closing-in == a position's family by A, and whether it closes by the family's string at the rank in A
@@ -137,7 +137,7 @@ module _ (s : List ℕ) (Q : Passes s) where
       = ap bytesOf string-a-in ∙ sym (bytes-are (partA s) (bitsA z) (part-a-small s h) (part-a-length s (Q .long)) (Q .unused-a)) in
       let b : (K : Family) → bytesOf (stringB K (wordIn s)) ≡ partB K s
       = λ K. ap bytesOf (string-b-in K) ∙ sym (bytes-are (partB K s) (bitsB K z) (part-b-small K s h) (part-b-length s (Q .long) K) (Q .unused-b K)) in
-      rw (a, b round, b square) (parts-are s (Q .long) h)
+      rw (a, b round, b square) (parts-are s (Q .long) h (Q .written))
 
 pub opens-encode : (s : List ℕ) → EachBelow 256 s → openRefusal s ≡ 0
     → Fits (sizeIn s) (wordIn s) × (s ≡ mapBytes (sizeIn s) (wordIn s))

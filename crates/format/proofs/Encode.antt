@@ -4,7 +4,7 @@
 -- fits-lengths      == its strings are as long as m and n say
 -- string-thins      == B and B* are what is left of the word when the other family's letters are taken out
 -- decode-encode     == the word in a map's bytes is the word that was written
--- encode-passes, encode-opens == the bytes of a word that fits pass checks 8 to 12
+-- encode-passes, encode-opens == the bytes of a word that fits pass opening's checks
 -- map-bytes-same    == the bytes depend only on the letters
 -- map-bytes-small   == they are bytes
 -- Assumes nothing.
@@ -23,13 +23,13 @@ use Rattle.words.specs.declared.family.Family.the-variants.{Round as round, Squ
 use Rattle.words.specs.Word.{Letter, Word, seen}
 use Rattle.words.proofs.Thin.{Thins, thin-balanced}
 use Rattle.bits.specs.Strings.{bit, isBit, rank, brackets}
-use Rattle.format.specs.Bytes.{le16, Size, sizeIn, bitsA, bitsB, partB, familyOf, familyBit, closingBit, letterIn, wordIn}
+use Rattle.format.specs.Bytes.{le16, Size, areasOf, headerOf, sizeIn, bitsA, bitsB, partB, familyOf, familyBit, closingBit, letterIn, wordIn}
 use Rattle.format.specs.Bytes.{stringA, stringB, bytesOf, mapBytes, mapLength, startB}
 use Rattle.format.specs.Open.{openRefusal}
 use Rattle.format.proofs.Bits.{EachBelow, bytes-of-bit, bytes-of-unused, bytes-of-small}
 use Rattle.format.proofs.Strings.{inFamily, family-same, family-back, family-itself, closing-back, closing-bracket, families-all}
 use Rattle.format.proofs.Strings.{string-a-length, string-a-at, string-a-bits, string-b-length, string-b-at, string-b-bits, string-a-same, string-b-same}
-use Rattle.format.proofs.Parts.{Lengths, size-of-bytes, map-length, part-a-is, part-b-is}
+use Rattle.format.proofs.Parts.{Lengths, size-of-bytes, areas-of-bytes, map-length, part-a-is, part-b-is}
 use Rattle.format.specs.Fits.{Fits}
 use Rattle.format.proofs.Passes.{Passes, passes-opens}
 
@@ -106,6 +106,7 @@ module _ (z : Size) (w : Word) (F : Fits z w) where
         m-most = rw fits-sized (F .m-most);
         n-least = rw fits-sized (F .n-least);
         n-most = rw fits-sized (F .n-most);
+        written = rw fits-sized (areas-of-bytes z w (omega (arith, F .m-most, F .n-least)));
         long = rw fits-sized (map-length z w L);
         unused-a = rw (part-a-is z w L, fits-sized, ← L .a) (bytes-of-unused (stringA w) (string-a-bits w));
         unused-b = λ K. rw (part-b-is z w L K, fits-sized, ← L .b K) (bytes-of-unused (stringB K w) (string-b-bits w K));
@@ -128,6 +129,11 @@ le16-small x zero = omega arith
 le16-small x (suc zero) = omega arith
 le16-small x (suc (suc i)) = omega arith
 
+header-small : (z : Size) → EachBelow 256 (headerOf z)
+header-small z =
+    each-append 256 (le16 (z .m)) (le16 (z .n) ++ le16 (areasOf z)) (le16-small (z .m))
+    (each-append 256 (le16 (z .n)) (le16 (areasOf z)) (le16-small (z .n)) (le16-small (areasOf z)))
+
 pub map-bytes-small : (z : Size) (w : Word) → EachBelow 256 (mapBytes z w)
 unfolding mapBytes
 map-bytes-small z w =
@@ -136,8 +142,7 @@ map-bytes-small z w =
     let A = bytesOf (stringA w) in
     let B = bytesOf (stringB round w) in
     let S = bytesOf (stringB square w) in
-    each-append 256 (le16 (z .m)) (le16 (z .n) ++ (A ++ (B ++ S))) (le16-small (z .m))
-    (each-append 256 (le16 (z .n)) (A ++ (B ++ S)) (le16-small (z .n)) (each-append 256 A (B ++ S) a (each-append 256 B S (b round) (b square))))
+    each-append 256 (headerOf z) (A ++ (B ++ S)) (header-small z) (each-append 256 A (B ++ S) a (each-append 256 B S (b round) (b square)))
 
 pub map-bytes-same : (z : Size) (v w : Word) → v .size ≡ w .size → ((p : ℕ) → p < w .size → v .letter p ≡ w .letter p)
     → mapBytes z v ≡ mapBytes z w

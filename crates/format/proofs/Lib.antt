@@ -4,11 +4,11 @@ pub mod Bits
 pub mod Strings
 pub mod Parts
 pub mod Chain
-pub mod After
 pub mod Passes
 pub mod Refusals
 pub mod Encode
 pub mod Longest
+pub mod OneForm
 pub mod Decode
 pub mod Openings
 pub mod Ranks

@@ -1,33 +1,33 @@
 -- No map is longer than the longest.
 --
 -- map-length-most  == the length that the header gives is at most the longest
--- long-refused     == bytes longer than the longest map don't open: 8 by their header, else 9
--- open-cut         == and so opening gives their first 1,030 bytes the number that it gives all of them
+-- long-refused     == bytes longer than the longest map don't open: 8 or 20 by their header, else 9
+-- open-cut         == and so opening gives their first bytes, one more than the longest map has, the number that it gives all of them
 -- Assumes nothing.
-use mathlib.Core.Path.{_≡_, sym, ap, _∙_}
+use mathlib.Core.Path.{_≡_, sym, ap, ap₂, _∙_}
 use mathlib.Core.Logic.{inl, inr}
 use mathlib.Core.Bool.{true, false, _&&_}
 use mathlib.Core.List.{List}
 use Prim.Native.Nat.{ℕ, _+_, _≤_, _<_}
 use native.Mathlib.Omega.{arith}
-use lib.Dec.{leb}
+use lib.Dec.{eqb, leb}
 use lib.ListN.{length, getD, take}
 use lib.Seq.{getD-take, length-take-le, take-all}
 use borrow.Author.Tests.{ne-eqb, le-leb}
 use Rattle.count.proofs.Logic.{lt-or-ge, true-or-false}
 use Rattle.bits.specs.Strings.{bytesFor}
 use Rattle.drawing.specs.Drawing.{mostBorders}
-use Rattle.format.specs.Bytes.{header, Size, sizeIn, le16At, startB, mapLength, longest}
-use Rattle.format.specs.Open.{unless, SizeFits, sizeFits, lengthFits, openRefusal}
+use Rattle.format.specs.Bytes.{header, Size, areasOf, sizeIn, writtenAreas, le16At, startB, mapLength, longest}
+use Rattle.format.specs.Open.{unless, SizeFits, sizeFits, areasFit, lengthFits, openRefusal}
 use Rattle.format.proofs.Passes.{decides-size}
 
 pub map-length-most : (z : Size) → z .m ≤ mostBorders → 1 ≤ z .n → z .n ≤ z .m + 1 → mapLength z ≤ longest
 unfolding mapLength startB bytesFor
 map-length-most z a b c = omega arith
 
--- what 8 and 9 make of bytes that are longer than the longest map
+-- what 8, 20 and 9 make of bytes that are longer than the longest map
 abbrev tooLong : List ℕ → ℕ
-tooLong s = unless (sizeFits s) 8 9
+tooLong s = unless (sizeFits s) 8 (unless (areasFit s) 20 9)
 
 module _ (s : List ℕ) (h : longest < length s) where
   no-length : sizeFits s ≡ true → lengthFits s ≡ false
@@ -59,6 +59,14 @@ module _ (s : List ℕ) (h : longest < length s) where
   unfolding sizeIn le16At
   cut-header = rw (cut-byte 0 (omega arith), cut-byte 1 (omega arith), cut-byte 2 (omega arith), cut-byte 3 (omega arith))
 
+  cut-written : writtenAreas cut ≡ writtenAreas s
+  unfolding writtenAreas le16At
+  cut-written = rw (cut-byte 4 (omega arith), cut-byte 5 (omega arith))
+
+  cut-areas : areasFit cut ≡ areasFit s
+  unfolding areasFit
+  cut-areas = ap₂ (λ (x : ℕ) (z : Size). eqb x (areasOf z)) cut-written cut-header
+
   cut-fits : sizeFits cut ≡ sizeFits s
   unfolding sizeFits
   cut-fits =
@@ -71,7 +79,7 @@ module _ (s : List ℕ) (h : longest < length s) where
   cut-refused : openRefusal cut ≡ openRefusal s
   cut-refused =
       let l = cut-long in
-      long-refused cut (omega arith) ∙ ap (λ t. unless t 8 9) cut-fits ∙ sym (long-refused s h)
+      long-refused cut (omega arith) ∙ ap₂ (λ t u. unless t 8 (unless u 20 9)) cut-fits cut-areas ∙ sym (long-refused s h)
 
 pub open-cut : (s : List ℕ) → openRefusal (take (longest + 1) s) ≡ openRefusal s
 open-cut s =

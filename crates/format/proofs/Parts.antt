@@ -1,13 +1,14 @@
 -- The parts of a map's bytes: where the header and the three strings stand, and that there is nothing else.
 --
--- size-of-bytes     == the header of a map gives its m and n back
+-- two-bytes         == a number below 65,536 from its two bytes
+-- size-of-bytes, areas-of-bytes == the header of a map gives its m and n back, and its count of areas
 -- Lengths z w       == the strings of w are as long as m and n say
 -- map-length        == the map is as long as m and n say
 -- part-a-is, part-b-is == the parts of a map are the bytes of its strings
 -- part-a-length, part-b-length == the parts of bytes of the header's length have the lengths that the header says
 -- part-b-as         == a string has the bytes that its bits take, from its offset on
 -- part-a-small, part-b-small == parts of bytes are bytes
--- parts-are         == bytes of the header's length are their header and their parts
+-- parts-are         == bytes of the header's length, with the right count of areas, are their header and their parts
 -- Assumes nothing.
 use mathlib.Core.Path.{_≡_, sym, _∙_, ap}
 use mathlib.Core.List.{List, [], _∷_, _++_}
@@ -19,7 +20,7 @@ use Rattle.words.specs.declared.family.Family.{Family}
 use Rattle.words.specs.declared.family.Family.the-variants.{Round as round, Square as square}
 use Rattle.words.specs.Word.{Word}
 use Rattle.bits.specs.Strings.{bytesFor}
-use Rattle.format.specs.Bytes.{header, le16, le16At, Size, sizeIn, bitsA, bitsB, startB, mapLength, partA, partB, stringA, stringB, bytesOf, mapBytes}
+use Rattle.format.specs.Bytes.{header, le16, le16At, Size, areasOf, headerOf, sizeIn, writtenAreas, bitsA, bitsB, startB, mapLength, partA, partB, stringA, stringB, bytesOf, mapBytes}
 use Rattle.format.proofs.Bits.{EachBelow, each-below, bytes-of-length}
 
 -- a part has the bytes that its bits take, from its offset on
@@ -41,10 +42,17 @@ part-b-as square s =
 size-same : (a b c d : ℕ) → a ≡ c → b ≡ d → _≡_ {A = Size} (record { m = a; n = b }) (record { m = c; n = d })
 size-same a b c d p q = λ i. record { m = p i; n = q i }
 
+pub two-bytes : (x : ℕ) → x < 65536 → x % 256 + 256 * (x / 256 % 256) ≡ x
+two-bytes x l = omega arith
+
 pub size-of-bytes : (z : Size) (w : Word) → z .m < 65536 → z .n < 65536 → sizeIn (mapBytes z w) ≡ z
 unfolding sizeIn le16At mapBytes
 size-of-bytes z w k l =
-    size-same (z .m % 256 + 256 * (z .m / 256 % 256)) (z .n % 256 + 256 * (z .n / 256 % 256)) (z .m) (z .n) (omega arith) (omega arith)
+    size-same (z .m % 256 + 256 * (z .m / 256 % 256)) (z .n % 256 + 256 * (z .n / 256 % 256)) (z .m) (z .n) (two-bytes (z .m) k) (two-bytes (z .n) l)
+
+pub areas-of-bytes : (z : Size) (w : Word) → areasOf z < 65536 → writtenAreas (mapBytes z w) ≡ areasOf z
+unfolding writtenAreas le16At mapBytes
+areas-of-bytes z w l = two-bytes (areasOf z) l
 
 pub record Lengths (z : Size) (w : Word) : Type 0 where
   pub m-small : z .m < 65536
@@ -110,14 +118,20 @@ le16-back a b k l =
     let r : b % 256 ≡ b = omega arith in
     rw (p, q, r)
 
-head-is : (s : List ℕ) → EachBelow 256 s → header ≤ length s → le16 (sizeIn s .m) ++ (le16 (sizeIn s .n) ++ drop header s) ≡ s
-unfolding sizeIn le16At
-head-is [] h l = absurd (omega arith)
-head-is (a ∷ []) h l = absurd (omega arith)
-head-is (a ∷ b ∷ []) h l = absurd (omega arith)
-head-is (a ∷ b ∷ c ∷ []) h l = absurd (omega arith)
-head-is (a ∷ b ∷ c ∷ d ∷ s) h l =
-    ap (λ x. x ++ (le16 (c + 256 * d) ++ s)) (le16-back a b (h 0) (h 1)) ∙ ap (λ x. a ∷ b ∷ (x ++ s)) (le16-back c d (h 2) (h 3))
+-- the header's bytes, where the count in it is m - n + 2, and what follows
+head-is : (s : List ℕ) → EachBelow 256 s → header ≤ length s → writtenAreas s ≡ areasOf (sizeIn s) → headerOf (sizeIn s) ++ drop header s ≡ s
+unfolding sizeIn writtenAreas le16At
+head-is [] h l e = absurd (omega arith)
+head-is (a ∷ []) h l e = absurd (omega arith)
+head-is (a ∷ b ∷ []) h l e = absurd (omega arith)
+head-is (a ∷ b ∷ c ∷ []) h l e = absurd (omega arith)
+head-is (a ∷ b ∷ c ∷ d ∷ []) h l e = absurd (omega arith)
+head-is (a ∷ b ∷ c ∷ d ∷ f ∷ []) h l e = absurd (omega arith)
+head-is (a ∷ b ∷ c ∷ d ∷ f ∷ g ∷ s) h l e =
+    ap (λ x. le16 (a + 256 * b) ++ (le16 (c + 256 * d) ++ (le16 x ++ s))) (sym e)
+    ∙ ap (λ x. x ++ (le16 (c + 256 * d) ++ (le16 (f + 256 * g) ++ s))) (le16-back a b (h 0) (h 1))
+    ∙ ap (λ x. a ∷ b ∷ (x ++ (le16 (f + 256 * g) ++ s))) (le16-back c d (h 2) (h 3))
+    ∙ ap (λ x. a ∷ b ∷ c ∷ d ∷ (x ++ s)) (le16-back f g (h 4) (h 5))
 
 small-part : (s : List ℕ) (i n : ℕ) → EachBelow 256 s → EachBelow 256 (take n (drop i s))
 small-part s i n h =
@@ -146,9 +160,10 @@ module _ (s : List ℕ) (e : length s ≡ mapLength (sizeIn s)) where
       let i = startB K (sizeIn s) in
       rw (part-b-as K s) (omega (arith, part-b-fits K, length-take k (drop i s), length-drop i s))
 
-  pub parts-are : EachBelow 256 s → s ≡ le16 (sizeIn s .m) ++ (le16 (sizeIn s .n) ++ (partA s ++ (partB round s ++ partB square s)))
+  pub parts-are : EachBelow 256 s → writtenAreas s ≡ areasOf (sizeIn s)
+      → s ≡ headerOf (sizeIn s) ++ (partA s ++ (partB round s ++ partB square s))
   unfolding mapLength startB
-  parts-are h =
+  parts-are h w =
       let z = sizeIn s in
       let a : partA s ++ drop (startB round z) s ≡ drop header s
       = rw (part-a-as s, ← drop-drop (bytesFor (bitsA z)) header s) (take-append-drop (bytesFor (bitsA z)) (drop header s)) in
@@ -157,4 +172,4 @@ module _ (s : List ℕ) (e : length s ≡ mapLength (sizeIn s)) where
       (take-append-drop (bytesFor (bitsB round z)) (drop (startB round z) s)) in
       let c : partB square s ≡ drop (startB square z) s
       = part-b-as square s ∙ take-all (bytesFor (bitsB square z)) (drop (startB square z) s) (omega (arith, length-drop (startB square z) s)) in
-      sym (head-is s h (omega arith)) ∙ ap (λ x. le16 (z .m) ++ (le16 (z .n) ++ x)) (sym (rw (c, b, a)))
+      sym (head-is s h (omega arith) w) ∙ ap (λ x. headerOf z ++ x) (sym (rw (c, b, a)))

@@ -1,7 +1,9 @@
--- Checks 8 to 12: the tests decide their propositions, and opening gives the number of the first that fails.
+-- Opening's checks: the tests decide their propositions, and opening gives the number of the first that fails.
 --
 -- decides-size   == the test of check 8 decides its proposition
--- Passes s       == what the five checks say of the bytes s, in one record
+-- Passes s       == what the six checks say of the bytes s, in one record
+-- openTests s    == the six tests, in the order of their checks
+-- refusal-chain, open-chain == opening's refusal is that of a chain of these tests, and they decide the checks
 -- opens-passes, passes-opens == no refusal applies exactly if they hold
 -- open-refusals  == opening gives the number of the first check that fails, or m and n
 -- Assumes nothing.
@@ -21,16 +23,17 @@ use Rattle.bits.specs.Strings.{rank, brackets, unusedZero}
 use Rattle.bits.proofs.Laws.{unused-zero-from, unused-zero-has}
 use Rattle.drawing.specs.Drawing.{mostBorders}
 use Rattle.format.specs.Refusals.{InOrder, bare}
-use Rattle.format.specs.Bytes.{header, sizeIn, bitsA, bitsB, mapLength, partA, partB}
-use Rattle.format.specs.Open.{SizeFits, sizeFits, LengthFits, lengthFits, UnusedZero, UnusedFits, unusedFits, OnesFit, onesFit}
-use Rattle.format.specs.Open.{BracketsFit, bracketsFit, OpenCheck, openRefusal, opened, openOf}
-use Rattle.format.proofs.Chain.{chain, Chain, hold-none, hold-from, chain-zero, chain-in-order}
+use Rattle.format.specs.Bytes.{header, areasOf, sizeIn, writtenAreas, bitsA, bitsB, mapLength, partA, partB}
+use Rattle.format.specs.Open.{SizeFits, sizeFits, AreasFit, areasFit, LengthFits, lengthFits, UnusedZero, UnusedFits, unusedFits, OnesFit, onesFit}
+use Rattle.format.specs.Open.{BracketsFit, bracketsFit, openChecks, OpenCheck, openRefusal, opened, openOf}
+use Rattle.format.proofs.Chain.{chain, Chain, each-hold, chain-zero, chain-in-order}
 
 pub record Passes (s : List ℕ) : Type 0 where
   pub header-fits : header ≤ length s
   pub m-most : sizeIn s .m ≤ mostBorders
   pub n-least : 1 ≤ sizeIn s .n
   pub n-most : sizeIn s .n ≤ sizeIn s .m + 1
+  pub written : writtenAreas s ≡ areasOf (sizeIn s)
   pub long : length s ≡ mapLength (sizeIn s)
   pub unused-a : unusedZero (partA s) (bitsA (sizeIn s)) ≡ true
   pub unused-b : (K : Family) → unusedZero (partB K s) (bitsB K (sizeIn s)) ≡ true
@@ -60,6 +63,10 @@ module _ (s : List ℕ) where
       (decides-both (decides-both (decides-le header (length s)) (decides-le (sizeIn s .m) mostBorders)) (decides-le 1 (sizeIn s .n)))
       (decides-le (sizeIn s .n) (sizeIn s .m + 1)))
 
+  decides-areas : Decides (areasFit s) (AreasFit s)
+  unfolding areasFit
+  decides-areas = decides-as (λ e. record { written = e }) (λ r. r .written) (decides-eq (writtenAreas s) (areasOf (sizeIn s)))
+
   decides-length : Decides (lengthFits s) (LengthFits s)
   unfolding lengthFits
   decides-length = decides-as (λ e. record { long = e }) (λ r. r .long) (decides-eq (length s) (mapLength (sizeIn s)))
@@ -86,31 +93,43 @@ module _ (s : List ℕ) where
       (λ r. (r .nested round, r .nested square))
       (decides-both (brackets-decides s round) (brackets-decides s square))
 
-  tests : List Bool
-  tests = sizeFits s ∷ lengthFits s ∷ unusedFits s ∷ onesFit s ∷ bracketsFit s ∷ []
+  abbrev pub openTests : List Bool
+  openTests = sizeFits s ∷ areasFit s ∷ lengthFits s ∷ unusedFits s ∷ onesFit s ∷ bracketsFit s ∷ []
 
-  refusal-chain : openRefusal s ≡ chain tests 8
-  unfolding openRefusal tests chain
+  pub refusal-chain : openRefusal s ≡ chain openChecks openTests
+  unfolding openRefusal chain
   refusal-chain = refl
 
-  open-chain : Chain (OpenCheck s) 8 tests
-  unfolding tests
-  open-chain = (decides-size, λ a. (decides-length, λ b. (decides-unused, λ c. (decides-ones, λ d. (decides-brackets, λ e. tt)))))
+  pub open-chain : Chain (OpenCheck s) openChecks openTests
+  open-chain = (
+    omega arith,
+    decides-size,
+    λ a. (
+      omega arith,
+      decides-areas,
+      λ b. (
+        omega arith,
+        decides-length,
+        λ c. (omega arith, decides-unused, λ d. (omega arith, decides-ones, λ e. (omega arith, decides-brackets, λ f. tt))),
+      ),
+    ),
+  )
 
   pub opens-passes : openRefusal s ≡ 0 → Passes s
-  unfolding tests
   opens-passes e =
-      let all = chain-zero (OpenCheck s) 8 tests (omega arith) open-chain .0 (sym refusal-chain ∙ e) in
-      let size : SizeFits s = all 8 (omega arith) (omega arith) in
-      let length : LengthFits s = all 9 (omega arith) (omega arith) in
-      let unused : UnusedFits s = all 10 (omega arith) (omega arith) in
-      let ones : OnesFit s = all 11 (omega arith) (omega arith) in
-      let brackets : BracketsFit s = all 12 (omega arith) (omega arith) in
+      let all = chain-zero (OpenCheck s) openChecks openTests open-chain .0 (sym refusal-chain ∙ e) in
+      let size : SizeFits s = all 0 (omega arith) in
+      let areas : AreasFit s = all 1 (omega arith) in
+      let length : LengthFits s = all 2 (omega arith) in
+      let unused : UnusedFits s = all 3 (omega arith) in
+      let ones : OnesFit s = all 4 (omega arith) in
+      let brackets : BracketsFit s = all 5 (omega arith) in
       record {
         header-fits = size .header-fits;
         m-most = size .m-most;
         n-least = size .n-least;
         n-most = size .n-most;
+        written = areas .written;
         long = length .long;
         unused-a = unused-zero-from (partA s) (bitsA (sizeIn s)) (unused .unused-a);
         unused-b = λ K. unused-zero-from (partB K s) (bitsB K (sizeIn s)) (unused .unused-b K);
@@ -119,7 +138,6 @@ module _ (s : List ℕ) where
       }
 
   pub passes-opens : Passes s → openRefusal s ≡ 0
-  unfolding tests
   passes-opens h =
       let P : ℕ → Type 0 = OpenCheck s in
       let size : SizeFits s = record { header-fits = h .header-fits; m-most = h .m-most; n-least = h .n-least; n-most = h .n-most } in
@@ -128,13 +146,10 @@ module _ (s : List ℕ) where
         unused-b = λ K. unused-decides (partB K s) (bitsB K (sizeIn s)) .sound (h .unused-b K);
       } in
       refusal-chain
-      ∙ chain-zero P 8 tests (omega arith) open-chain .1
-      (hold-from P 8 13 size
-      (hold-from P 9 13 (record { long = h .long })
-      (hold-from P 10 13 unused
-      (hold-from P 11 13 (record { ones = h .ones })
-      (hold-from P 12 13 (record { nested = h .nested }) (hold-none P 13 13 (omega arith)))))))
+      ∙ chain-zero P openChecks openTests open-chain .1
+      (each-hold P openChecks []
+      (size, (record { written = h .written }, (record { long = h .long }, (unused, (record { ones = h .ones }, (record { nested = h .nested }, tt)))))))
 
-  pub open-refusals : InOrder bare (OpenCheck s) 8 12 (sizeIn s) (openOf s)
-  unfolding openOf opened tests
-  open-refusals = rw refusal-chain (chain-in-order bare (OpenCheck s) 8 12 tests (sizeIn s) (omega arith) (omega arith) open-chain)
+  pub open-refusals : InOrder bare (OpenCheck s) openChecks (sizeIn s) (openOf s)
+  unfolding openOf opened
+  open-refusals = rw refusal-chain (chain-in-order bare (OpenCheck s) openChecks openTests (sizeIn s) open-chain)

@@ -1,9 +1,12 @@
--- The bytes of a packed map (document 01, "Tour and packed map"; sources 002 and 000: Turán's three strings).
+-- The bytes of a packed map (document 01, "Tour and packed map", and document 02, 6/14; sources 002 and 000: Turán's three strings).
 --
 -- EachBelow k s      == every entry of s is below k: 2 for a list of bits, 256 for a byte string
--- header, atM, atN   == the header's length and the offsets of its fields
+-- atM, atN, atAreas, header == the offsets of the header's fields, and its length
 -- Size               == m and n
+-- areasOf z          == m - n + 2: how many areas there are with m and n of z
+-- headerOf z         == the header with m and n of z
 -- sizeIn s           == m and n as the header of s has them
+-- writtenAreas s     == the count of areas as the header of s has it
 -- bitsA, bitsB K     == how many bits A, B (round) and B* (square) have
 -- startA, startB, startS, mapLength == where A, B and B* begin, and the length of the whole
 -- longest            == the length of the longest map
@@ -11,7 +14,7 @@
 -- wordIn s           == the bracket word that the bytes s hold
 -- stringA w, stringB K w == A, B and B* of a word
 -- bytesOf bits       == bits in bytes from a fresh byte, first bit lowest, unused bits 0
--- mapBytes z w       == the bytes of the word w with m and n of z
+-- mapBytes z w       == the bytes of the word w with m and n of z: the header, A, B and B*
 -- Assumes nothing.
 use mathlib.Core.Bool.{Bool, true, false}
 use mathlib.Core.List.{List, [], _∷_, _++_}
@@ -27,15 +30,18 @@ use Rattle.bits.specs.Strings.{bit, rank, bytesFor}
 abbrev pub EachBelow : ℕ → List ℕ → Type 0
 EachBelow k s = (i : ℕ) → getD s i 0 < k
 
--- 01: "Bytes: m, then n, each two bytes, low byte first."
-abbrev pub header : ℕ
-header = 4
-
+-- 01: "Bytes: m, then n, each two bytes, low byte first." 02, 6/14: "Two bytes, low first, follow n and hold m-n+2."
 abbrev pub atM : ℕ
 atM = 0
 
 abbrev pub atN : ℕ
 atN = 2
+
+abbrev pub atAreas : ℕ
+atAreas = 4
+
+abbrev pub header : ℕ
+header = 6
 
 abbrev pub le16 : ℕ → List ℕ
 le16 x = x % 256 ∷ x / 256 % 256 ∷ []
@@ -47,9 +53,20 @@ pub record Size : Type 0 where
   pub m : ℕ
   pub n : ℕ
 
+-- 01: "There are m-n+2 areas."
+abbrev pub areasOf : Size → ℕ
+areasOf z = z .m + 2 - z .n
+
+abbrev pub headerOf : Size → List ℕ
+headerOf z = le16 (z .m) ++ (le16 (z .n) ++ le16 (areasOf z))
+
 unfoldable pub sizeIn : List ℕ → Size
 unfolding le16At
 sizeIn s = record { m = le16At s atM; n = le16At s atN }
+
+unfoldable pub writtenAreas : List ℕ → ℕ
+unfolding le16At
+writtenAreas s = le16At s atAreas
 
 -- 01: "Then A (2m bits), B (2n-2) and B* (2(m-n+1)), each from a fresh byte"
 abbrev pub bitsA : Size → ℕ
@@ -71,7 +88,7 @@ unfoldable pub mapLength : Size → ℕ
 unfolding startB bytesFor
 mapLength z = startB square z + bytesFor (bitsB square z)
 
--- 01: "The longest map has 1,029 bytes."
+-- 02, 6/14: "The longest map is now 1,031 bytes"
 abbrev pub longest : ℕ
 longest = header + 1025
 
@@ -130,5 +147,4 @@ bytesOf bits = table (λ i. byteOf (take 8 (drop (8 * i) bits))) (bytesFor (leng
 
 unfoldable pub mapBytes : Size → Word → List ℕ
 unfolding bytesOf stringA stringB
-mapBytes z w =
-    le16 (z .m) ++ (le16 (z .n) ++ (bytesOf (stringA w) ++ (bytesOf (stringB round w) ++ bytesOf (stringB square w))))
+mapBytes z w = headerOf z ++ (bytesOf (stringA w) ++ (bytesOf (stringB round w) ++ bytesOf (stringB square w)))

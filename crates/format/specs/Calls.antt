@@ -1,10 +1,10 @@
 -- Every call on map bytes, as a total function of the bytes and numbers (document 01, "Moves").
 --
 -- moveIn w c p        == the answer of the call c at position p of the word w
--- mapAnswer s c i     == the call c at place i of the map s: 8 to 12, 13, then the answer
+-- mapAnswer s c i     == the call c at place i of the map s: opening's checks, 13, then the answer
 -- crossOf, turnOf, turnBackOf, alongOf, pointOf, areaOf == the six, by name
 -- mapSession s i cs   == a session on the map s
--- firstOf, sizeOf     == first place, and degree or sides, of a point or an area of the map s: 8 to 12, 14 or 15
+-- firstOf, sizeOf     == first place, and degree or sides, of a point or an area of the map s: opening's checks, 14 or 15
 -- neighboursIn, neighboursOf == the neighbour count of an area of a word, of the map s
 -- landingsIn w k      == the areas across the sides of area k of a word, one for each side
 -- joiningOf s u v     == the joining border of points u and v
@@ -22,7 +22,7 @@ use Rattle.drawing.specs.Drawing.{Kind}
 use Rattle.drawing.specs.Session.{Answer, answer, refused, Call, Outcome, session}
 use Rattle.drawing.specs.Neighbours.{neighbours, landings}
 use Rattle.drawing.specs.Book.{noSuch}
-use Rattle.format.specs.Bytes.{Size, sizeIn, wordIn}
+use Rattle.format.specs.Bytes.{Size, areasOf, sizeIn, wordIn}
 use Rattle.format.specs.Open.{opened}
 
 -- a point is what round brackets enclose, an area is what square brackets enclose
@@ -82,7 +82,7 @@ mapSession s i cs = session (mapAnswer s) i cs
 -- 14: "point not 1 to n"; 15: "area not 1 to m-n+2"
 abbrev pub cellsIn : Size → Kind → ℕ
 cellsIn z Kind.point = z .n
-cellsIn z Kind.area = z .m + 2 - z .n
+cellsIn z Kind.area = areasOf z
 
 abbrev pub isNumber : Size → Kind → ℕ → Bool
 isNumber z c k = ltb 0 k && leb k (cellsIn z c)

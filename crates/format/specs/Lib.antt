@@ -5,3 +5,4 @@ pub mod Refusals
 pub mod Open
 pub mod Calls
 pub mod Pack
+pub mod Before

@@ -1,14 +1,17 @@
--- Opening: checks 8 to 12 on any byte string (document 01, the table), each as a test beside the proposition that it decides.
+-- Opening: checks 8, 20 and 9 to 12 on any byte string (document 01, the table; document 02, 6/14), each as a test beside the
+-- proposition that it decides.
 --
 -- unless t k rest  == the number k unless the test holds, then the rest
 -- SizeFits, sizeFits       == passes 8: the header is there, m is at most 2,048 and n is 1 to m + 1
+-- AreasFit, areasFit       == passes 20: the header's count of areas is m - n + 2
 -- LengthFits, lengthFits   == passes 9: the length is the header's
 -- UnusedFits, unusedFits   == passes 10: no unused bit is 1
 -- OnesFit, onesFit         == passes 11: A has 2n - 2 ones
 -- BracketsFit, bracketsFit == passes 12: B and B* are balanced
 -- UnusedZero t k   == the bits of the string t from bit k on are 0
--- OpenCheck s k    == s passes check k of these five; nothing is asked of another number
--- openRefusal s    == the first of 8 to 12 that applies to the bytes s; 0 where none does
+-- openChecks       == the numbers of these checks, in the order in which they run
+-- OpenCheck s k    == s passes check k of these six; nothing is asked of another number
+-- openRefusal s    == the first of them that applies to the bytes s; 0 where none does
 -- Opens s          == s is a byte string, and none applies
 -- openOf s         == opening: m and n, or the refusal
 -- afterRefusalWith k xs a == the refusal k, which carries xs, or a where k is 0
@@ -17,7 +20,7 @@
 -- Assumes nothing.
 use mathlib.Core.Path.{_≡_}
 use mathlib.Core.Bool.{Bool, true, false, _&&_}
-use mathlib.Core.List.{List, []}
+use mathlib.Core.List.{List, [], _∷_}
 use Prim.Native.Nat.{ℕ, zero, suc, _+_, _-_, _*_, _≤_, _<_}
 use lib.ListN.{length}
 use lib.Dec.{eqb, leb}
@@ -28,13 +31,13 @@ use Rattle.words.specs.declared.family.Family.the-variants.{Round as round, Squ
 use Rattle.bits.specs.Strings.{bit, rank, brackets, unusedZero}
 use Rattle.drawing.specs.Drawing.{mostBorders}
 use Rattle.drawing.specs.Session.{Answer, answer, refusedWith}
-use Rattle.format.specs.Bytes.{EachBelow, Size, header, sizeIn, bitsA, bitsB, mapLength, partA, partB}
+use Rattle.format.specs.Bytes.{EachBelow, Size, header, areasOf, sizeIn, writtenAreas, bitsA, bitsB, mapLength, partA, partB}
 
 abbrev pub unless : Bool → ℕ → ℕ → ℕ
 unless true k rest = rest
 unless false k rest = k
 
--- 8: "under 4 bytes, m over 2,048, or n not 1 to m+1"
+-- 8: "under 4 bytes, m over 2,048, or n not 1 to m+1"; 02, 6/14: "refusal 8 wants 6 bytes"
 pub record SizeFits (s : List ℕ) : Type 0 where
   pub header-fits : header ≤ length s
   pub m-most : sizeIn s .m ≤ mostBorders
@@ -45,6 +48,14 @@ unfoldable pub sizeFits : List ℕ → Bool
 unfolding sizeIn
 sizeFits s =
     leb header (length s) && leb (sizeIn s .m) mostBorders && leb 1 (sizeIn s .n) && leb (sizeIn s .n) (sizeIn s .m + 1)
+
+-- 20: "when the written count isn't m-n+2, between 8 and 9"
+pub record AreasFit (s : List ℕ) : Type 0 where
+  pub written : writtenAreas s ≡ areasOf (sizeIn s)
+
+unfoldable pub areasFit : List ℕ → Bool
+unfolding writtenAreas sizeIn
+areasFit s = eqb (writtenAreas s) (areasOf (sizeIn s))
 
 -- 9: "length differs from the header's"
 pub record LengthFits (s : List ℕ) : Type 0 where
@@ -90,14 +101,20 @@ bracketsFit s =
 abbrev pub OpenCheck : List ℕ → ℕ → Type 0
 OpenCheck s k =
     pick (eqb k 8) (SizeFits s)
+    (pick (eqb k 20) (AreasFit s)
     (pick (eqb k 9) (LengthFits s)
-    (pick (eqb k 10) (UnusedFits s) (pick (eqb k 11) (OnesFit s) (pick (eqb k 12) (BracketsFit s) Unit))))
+    (pick (eqb k 10) (UnusedFits s) (pick (eqb k 11) (OnesFit s) (pick (eqb k 12) (BracketsFit s) Unit)))))
 
--- 01: "Checks run in table order"
+-- 01: "Checks run in table order", and 20 "between 8 and 9"
+abbrev pub openChecks : List ℕ
+openChecks = 8 ∷ 20 ∷ 9 ∷ 10 ∷ 11 ∷ 12 ∷ []
+
 unfoldable pub openRefusal : List ℕ → ℕ
-unfolding sizeFits lengthFits unusedFits onesFit bracketsFit
+unfolding sizeFits areasFit lengthFits unusedFits onesFit bracketsFit
 openRefusal s =
-    unless (sizeFits s) 8 (unless (lengthFits s) 9 (unless (unusedFits s) 10 (unless (onesFit s) 11 (unless (bracketsFit s) 12 0))))
+    unless (sizeFits s) 8
+    (unless (areasFit s) 20
+    (unless (lengthFits s) 9 (unless (unusedFits s) 10 (unless (onesFit s) 11 (unless (bracketsFit s) 12 0)))))
 
 -- 01, demand 2: a "byte string accepted on opening"
 pub record Opens (s : List ℕ) : Type 0 where
@@ -111,7 +128,7 @@ afterRefusalWith (suc k) xs a = refusedWith (suc k) xs
 abbrev pub afterRefusal : {A : Type 0} → ℕ → Answer A → Answer A
 afterRefusal k a = afterRefusalWith k [] a
 
--- 01: "Every call on map bytes runs 8 to 12, then its own."
+-- 01: "Every call on map bytes runs 8 to 12, then its own", and with them 20
 unfoldable pub opened : {A : Type 0} → List ℕ → Answer A → Answer A
 unfolding openRefusal
 opened s a = afterRefusal (openRefusal s) a

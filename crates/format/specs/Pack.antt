@@ -4,6 +4,7 @@
 -- sizeFor D        == m and n of the drawing
 -- packedBytes D    == the bytes that packing writes for the drawing
 -- Room D w o, roomFits == passes 2: w entries of working list and o bytes of output are enough
+-- packChecks       == the numbers of packing's checks, in the order in which they run
 -- PackCheck D w o k == the drawing and the memory lent pass check k of 1 to 7; nothing is asked of another number
 -- packRefusal D w o == the first of 1 to 7 that applies, with w entries of working list and o bytes of output lent; 0 where none does
 -- packCarries D k  == the numbers that packing's refusal k carries: the first crossing with 7
@@ -15,7 +16,7 @@
 -- unpackOf s t k   == unpacking the map s into lists of t turning entries and k marks
 -- Assumes nothing.
 use mathlib.Core.Bool.{Bool, true, false, not, _&&_}
-use mathlib.Core.List.{List, []}
+use mathlib.Core.List.{List, [], _∷_}
 use Prim.Native.Nat.{ℕ, zero, suc, _+_, _*_, _/_, _≤_}
 use lib.Dec.{eqb, ltb, leb}
 use Rattle.count.specs.Below.{pick, count, find, table}
@@ -44,7 +45,7 @@ unfoldable pub packedBytes : Drawing → List ℕ
 unfolding mapBytes borders cells wordOf
 packedBytes D = mapBytes (sizeFor D) (wordOf D)
 
--- 2: "working list under 6m entries, or output under 1,029 bytes"
+-- 2: "working list under 6m entries, or output under" the longest map's length; 02, 6/14: "refusal 2 needs that much"
 pub record Room (D : Drawing) (work out : ℕ) : Type 0 where
   pub working : 6 * borders D ≤ work
   pub output : longest ≤ out
@@ -61,6 +62,9 @@ PackCheck D work out k =
     (pick (eqb k 5) (Joined D) (pick (eqb k 6) (FewMarks D) (pick (eqb k 7) (Flat D) Unit))))))
 
 -- 01: "Pack uses 1 to 7", in table order
+abbrev pub packChecks : List ℕ
+packChecks = 1 ∷ 2 ∷ 3 ∷ 4 ∷ 5 ∷ 6 ∷ 7 ∷ []
+
 unfoldable pub packRefusal : Drawing → ℕ → ℕ → ℕ
 unfolding lengthsFit borders inRange distinct joined fewMarks crosses
 packRefusal D work out =

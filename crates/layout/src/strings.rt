@@ -9,8 +9,8 @@ use bits::least;
 use format::HEADER;
 use words::Family;
 ghost use mathlib.Core.Path.{_≡_};
-ghost use Prim.Native.Nat.{_<_, _≤_};
-ghost use Rattle.format.specs.Bytes.{sizeIn, bitsA, bitsB, startB, mapLength, part, partA, partB, familyBit};
+ghost use Prim.Native.Nat.{_+_, _<_, _≤_};
+ghost use Rattle.format.specs.Bytes.{header, sizeIn, bitsA, bitsB, startB, mapLength, part, partA, partB, familyBit};
 
 // The bytes of A.
 pub fn part_a(map: &[u8]) -> &[u8]
@@ -63,7 +63,7 @@ pub fn family_bit(family: Family) -> usize
 
 // Where B or B* begins.
 pub fn start_b(map: &[u8], family: Family) -> usize
-    ensures { λ r. ⌜ (r ≡ startB family (sizeIn (now (map .entry)))) × (r ≤ 32772) ⌝ }
+    ensures { λ r. ⌜ (r ≡ startB family (sizeIn (now (map .entry)))) × (r ≤ header + 32768) ⌝ }
 {
     let first = HEADER + bytes_for(bits_a(map));
     match family {

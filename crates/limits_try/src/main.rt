@@ -1,5 +1,9 @@
 // Runs packing and opening at their limits, and writes a line for each: what was tried, the number of the refusal or 0, and
 // the length of the map or its borders and points.
+use format::AT_AREAS;
+use format::AT_M;
+use format::AT_N;
+use format::LONGEST;
 use libc::STDOUT_FILENO;
 use opening::Opened;
 use packing::Packed;
@@ -10,6 +14,8 @@ const LOOPS: usize = 0;
 const STAR: usize = 1;
 
 const MIXED: usize = 2;
+
+const SHORT: usize = LONGEST - 1;
 
 fn main() {
     most_borders(LOOPS);
@@ -24,22 +30,24 @@ fn most_borders(kind: usize) {
     let mut marks = [0u8; 2048];
     fill_turning(&mut turning, kind);
     fill_marks(&mut marks, kind);
-    let mut out = [0u8; 1029];
+    let mut out = [0u8; LONGEST];
     show_packed(&turning, &marks, &mut out);
-    show_part(&out, 1028);
+    show_part(&out, SHORT);
     show_opened(&out);
-    out[2] = 2;
-    out[3] = 8; // n = 2,050 = m + 2
-    show_part(&out, 1028);
-    out[0] = 1; // m = 2,049
-    show_part(&out, 1028);
+    out[AT_AREAS] = 7; // no drawing of these has so many areas
+    show_part(&out, SHORT);
+    out[AT_N] = 2;
+    out[AT_N + 1] = 8; // n = 2,050 = m + 2
+    show_part(&out, SHORT);
+    out[AT_M] = 1; // m = 2,049
+    show_part(&out, SHORT);
 }
 
 // A turning list of 4,098 entries and 2,049 marks.
 fn one_too_many() {
     let turning = [0u16; 4098];
     let marks = [0u8; 2049];
-    let mut out = [0u8; 1029];
+    let mut out = [0u8; LONGEST];
     show_packed(&turning, &marks, &mut out);
 }
 

@@ -1,6 +1,6 @@
 -- The joining border: what is answered, by the checks of both points.
 --
--- join-declines, join-no-such == 8 to 12 and 14 for u; 14 for v
+-- join-declines, join-no-such == opening's refusal and 14 for u; 14 for v
 -- join-answers    == the place that the search finds
 -- Assumes nothing.
 use mathlib.Core.Path.{_≡_, refl, sym, ap, _∙_}

@@ -1,6 +1,6 @@
 -- What a call may conclude from its check: it declines with the number, or its own answer stands.
 --
--- refused-is, passed-is, answered-is == checks 8 to 12 and one more, of any call
+-- refused-is, passed-is, answered-is == opening's checks and one more, of any call
 -- place-least, place-passes == where no check applies the bytes open, and there is such a place
 -- place-declines, place-answers == a call about a place: 13, or its answer
 -- cell-passes   == where no check applies the bytes open, and there is such a point (area)

@@ -1,12 +1,13 @@
--- Rows 8 to 12 of the table, from what the checks found to the definitions: each row, their order, and opening.
+-- Checks 8, 20 and 9 to 12, from what the checks found to the definitions: each check, their order, and opening.
 --
 -- passes, fails          == a test is what it was found to be
 -- too-short, too-many, no-point, points-fit == 8, by the case
+-- areas-is               == 20
 -- length-is              == 9
 -- unused-is, balanced-is, ones-is == what was computed of the parts is so of the map's strings
 -- unused-a-not, unused-b-not, unused-never, unused-left == 10, by the string that decides
 -- brackets-not, brackets-left == 12, by the string that decides
--- first-8 .. first-12, none == the first check that declines
+-- first-8, first-20, first-9 .. first-12, none == the first check that declines
 -- opens-size, opens-not  == opening gives m and n, or the number
 -- bytes-open, answer-opens == what opening accepts is a byte string that opens
 -- Assumes nothing.
@@ -26,8 +27,8 @@ use Rattle.words.specs.declared.family.Family.{Family}
 use Rattle.words.specs.declared.family.Family.the-variants.{Round as round, Square as square}
 use Rattle.bits.specs.Strings.{rank, brackets, unusedZero}
 use Rattle.drawing.specs.Session.{Answer, answer, refused}
-use Rattle.format.specs.Bytes.{header, Size, sizeIn, bitsA, bitsB, mapLength, partA, partB}
-use Rattle.format.specs.Open.{afterRefusal, sizeFits, lengthFits, unusedFits, onesFit, bracketsFit, openRefusal, openOf, Opens, opened}
+use Rattle.format.specs.Bytes.{header, Size, areasOf, sizeIn, writtenAreas, bitsA, bitsB, mapLength, partA, partB}
+use Rattle.format.specs.Open.{afterRefusal, sizeFits, areasFit, lengthFits, unusedFits, onesFit, bracketsFit, openRefusal, openOf, Opens, opened}
 use Rattle.format.proofs.Chain.{after-answer}
 
 -- a test r that was computed, and the test t that it computes
@@ -64,6 +65,11 @@ module _ (s : List ℕ) where
     unfolding sizeFits
     points-fit l k =
         rw (le-leb header (length s) h, le-leb (sizeIn s .m) 2048 (omega arith), le-leb 1 (sizeIn s .n) (omega arith), p, q)
+
+  -- ---- 20
+  pub areas-is : (x y : ℕ) → x ≡ writtenAreas s → y ≡ areasOf (sizeIn s) → eqb x y ≡ areasFit s
+  unfolding areasFit
+  areas-is x y p q = ap₂ eqb p q
 
   -- ---- 9
   pub length-is : (k : ℕ) → k ≡ mapLength (sizeIn s) → eqb (length s) k ≡ lengthFits s
@@ -118,28 +124,33 @@ module _ (s : List ℕ) where
   first-8 a = rw a
 
   module _ (a : sizeFits s ≡ true) where
-    pub first-9 : lengthFits s ≡ false → 9 ≡ openRefusal s
+    pub first-20 : areasFit s ≡ false → 20 ≡ openRefusal s
     unfolding openRefusal
-    first-9 b = rw (a, b)
+    first-20 f = rw (a, f)
 
-    module _ (b : lengthFits s ≡ true) where
-      pub first-10 : unusedFits s ≡ false → 10 ≡ openRefusal s
+    module _ (f : areasFit s ≡ true) where
+      pub first-9 : lengthFits s ≡ false → 9 ≡ openRefusal s
       unfolding openRefusal
-      first-10 c = rw (a, b, c)
+      first-9 b = rw (a, f, b)
 
-      module _ (c : unusedFits s ≡ true) where
-        pub first-11 : onesFit s ≡ false → 11 ≡ openRefusal s
+      module _ (b : lengthFits s ≡ true) where
+        pub first-10 : unusedFits s ≡ false → 10 ≡ openRefusal s
         unfolding openRefusal
-        first-11 d = rw (a, b, c, d)
+        first-10 c = rw (a, f, b, c)
 
-        module _ (d : onesFit s ≡ true) where
-          pub first-12 : bracketsFit s ≡ false → 12 ≡ openRefusal s
+        module _ (c : unusedFits s ≡ true) where
+          pub first-11 : onesFit s ≡ false → 11 ≡ openRefusal s
           unfolding openRefusal
-          first-12 e = rw (a, b, c, d, e)
+          first-11 d = rw (a, f, b, c, d)
 
-          pub none : bracketsFit s ≡ true → 0 ≡ openRefusal s
-          unfolding openRefusal
-          none e = rw (a, b, c, d, e)
+          module _ (d : onesFit s ≡ true) where
+            pub first-12 : bracketsFit s ≡ false → 12 ≡ openRefusal s
+            unfolding openRefusal
+            first-12 e = rw (a, f, b, c, d, e)
+
+            pub none : bracketsFit s ≡ true → 0 ≡ openRefusal s
+            unfolding openRefusal
+            none e = rw (a, f, b, c, d, e)
 
   -- ---- opening
   pub opens-size : (k m n : ℕ) → k ≡ openRefusal s → k ≡ 0 → m ≡ sizeIn s .m → n ≡ sizeIn s .n → _≡_ {A = Answer Size} (answer (record { m = m; n = n })) (openOf s)

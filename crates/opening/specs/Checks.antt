@@ -1,9 +1,9 @@
 -- The checks of a call's own number, after opening's (document 01, the table).
 --
 -- orNext o k         == the number o, or k where o is 0
--- afterOpening s t k == 8 to 12, else k unless the test holds; 0 where none applies
--- placeRefusal s i   == 8 to 12, then 13
--- cellRefusal s c k  == 8 to 12, then 14 (points) or 15 (areas)
+-- afterOpening s t k == opening's refusal, else k unless the test holds; 0 where none applies
+-- placeRefusal s i   == opening's refusal, else 13
+-- cellRefusal s c k  == opening's refusal, else 14 (points) or 15 (areas)
 -- Assumes nothing.
 use mathlib.Core.Bool.{Bool, _&&_}
 use mathlib.Core.List.{List}
@@ -19,7 +19,7 @@ abbrev pub orNext : ℕ → ℕ → ℕ
 orNext zero k = k
 orNext (suc o) k = suc o
 
--- 01: "Every call on map bytes runs 8 to 12, then its own."
+-- 01: "Every call on map bytes runs 8 to 12, then its own", and with them 20
 unfoldable pub afterOpening : List ℕ → Bool → ℕ → ℕ
 unfolding openRefusal
 afterOpening s t k = orNext (openRefusal s) (unless t k 0)

@@ -1,7 +1,8 @@
-// Opening: checks 8 to 12, each in one pass over its strings.
+// Opening: checks 8, 20 and 9 to 12, each in one pass over its strings.
 use crate::answers::Opened;
 use format::HEADER;
 use format::MOST_BORDERS;
+use layout::areas;
 use layout::bits_a;
 use layout::bits_b;
 use layout::borders;
@@ -9,13 +10,14 @@ use layout::map_length;
 use layout::part_a;
 use layout::part_b;
 use layout::points;
+use layout::written_areas;
 use words::Family;
 ghost use mathlib.Core.Path.{_≡_};
 ghost use Rattle.words.specs.Brackets.{balanced};
 ghost use Rattle.bits.specs.Strings.{brackets, unusedZero};
 ghost use Rattle.drawing.specs.Session.{answer};
 ghost use Rattle.format.specs.Bytes.{Size, sizeIn, bitsA, bitsB, partA, partB};
-ghost use Rattle.format.specs.Open.{sizeFits, lengthFits, unusedFits, onesFit, bracketsFit, openRefusal, Opens, openOf};
+ghost use Rattle.format.specs.Open.{sizeFits, areasFit, lengthFits, unusedFits, onesFit, bracketsFit, openRefusal, Opens, openOf};
 ghost use Rattle.opening.specs.Answers.{openedMeans};
 
 // "Opening gives m and n", or the number of the check that declines. What it accepts is a byte string that opens.
@@ -31,13 +33,16 @@ pub fn open(map: &[u8]) -> Opened
     }
 }
 
-// "Checks run in table order": the number of the first that declines; 0 where none does.
+// "Checks run in table order", and 20 "between 8 and 9": the number of the first that declines; 0 where none does.
 pub fn refusal(map: &[u8]) -> u8
     ensures { λ r. ⌜ r ≡ openRefusal (now (map .entry)) ⌝ }
     ensures { λ _. ⌜ (openRefusal (now (map .entry)) ≡ 0 → Opens (now (map .entry))) ⌝ }
 {
     if !size_fits(map) {
         return 8;
+    }
+    if !areas_fit(map) {
+        return 20;
     }
     if !length_fits(map) {
         return 9;
@@ -54,7 +59,7 @@ pub fn refusal(map: &[u8]) -> u8
     0
 }
 
-// 8: "under 4 bytes, m over 2,048, or n not 1 to m+1"
+// 8: the header is not there, "m over 2,048, or n not 1 to m+1"
 fn size_fits(map: &[u8]) -> bool
     ensures { λ r. ⌜ r ≡ sizeFits (now (map .entry)) ⌝ }
 {
@@ -70,6 +75,13 @@ fn size_fits(map: &[u8]) -> bool
         return false;
     }
     n <= m + 1
+}
+
+// 20: "when the written count isn't m-n+2"
+fn areas_fit(map: &[u8]) -> bool
+    ensures { λ r. ⌜ r ≡ areasFit (now (map .entry)) ⌝ }
+{
+    written_areas(map) == areas(map)
 }
 
 // 9: "length differs from the header's"

@@ -12,7 +12,7 @@ ghost use Rattle.format.specs.Calls.{cellsIn, isNumber};
 ghost use Rattle.opening.specs.Cells.{kindOf, numberOfCell};
 ghost use Rattle.opening.specs.Checks.{placeRefusal, cellRefusal};
 
-// 8 to 12, then 13: "place not 1 to 2m"; 0 where none applies.
+// Opening's checks, then 13: "place not 1 to 2m"; 0 where none applies.
 pub fn place_refusal(map: &[u8], place: Place) -> u8
     ensures { λ r. ⌜ r ≡ placeRefusal (now (map .entry)) (place .0) ⌝ }
 {
@@ -30,7 +30,7 @@ pub fn place_refusal(map: &[u8], place: Place) -> u8
     0
 }
 
-// 8 to 12, then 14: "point not 1 to n", or 15: "area not 1 to m-n+2"; 0 where none applies.
+// Opening's checks, then 14: "point not 1 to n", or 15: "area not 1 to m-n+2"; 0 where none applies.
 pub fn cell_refusal(map: &[u8], cell: Cell) -> u8
     ensures { λ r. ⌜ r ≡ cellRefusal (now (map .entry)) (kindOf cell) (numberOfCell cell) ⌝ }
 {

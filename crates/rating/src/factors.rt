@@ -21,7 +21,7 @@ ghost use Rattle.tariff.specs.Tariff.{TariffFits, sumAcross, priced};
 ghost use Rattle.tariff.specs.Maps.{factorOf};
 ghost use Rattle.rating.specs.Answers.{factorMeans};
 
-// The factor of an area: 8 to 12, 15, 18, 19, or the number.
+// The factor of an area: opening's checks, 15, 18, 19, or the number.
 pub fn factor(map: &[u8], area: Area, kinds: &[u8], values: &[f64]) -> FactorAnswer
     ensures { λ r. ⌜ factorMeans r ≡ factorOf (now (map .entry)) (area .0) (now (kinds .entry)) (now (values .entry)) ⌝ }
 {

@@ -1,5 +1,6 @@
-// Runs the examples of document 01's table, rows 1 to 17, and writes for each its number and the number that came: they are
-// the same in every line. Then the drawings of (a) to (c), which are accepted: 0.
+// Runs the examples of document 01's table, rows 1 to 17, and of 20, and writes for each its number and the number that came: they
+// are the same in every line. Then the drawings of (a) to (c), which are accepted: 0.
+use format::LONGEST;
 use libc::STDOUT_FILENO;
 use opening::Area;
 use opening::Count;
@@ -10,6 +11,8 @@ use opening::Point;
 use packing::Packed;
 use reading::Parsed;
 use unpacking::Unpacked;
+
+const SHORT: usize = LONGEST - 1;
 
 fn main() {
     pack_rows();
@@ -29,18 +32,21 @@ fn pack_rows() {
     row(7, pack(&[2, 3, 1, 0], &[0, 0]));
 }
 
-// 8 to 12: opening.
+// 8, 20 and 9 to 12: opening. The count of areas is looked at before the length.
 fn open_rows() {
     row(8, open(b"\x00\x00\x00\x00"));
-    row(9, open(b"\x00\x00\x01\x00\x05"));
-    row(10, open(b"\x01\x00\x02\x00\x07\x02"));
-    row(11, open(b"\x01\x00\x02\x00\x01\x02"));
-    row(12, open(b"\x01\x00\x02\x00\x03\x01"));
+    row(8, open(b"\x00\x00\x00\x00\x02\x00"));
+    row(20, open(b"\x01\x00\x02\x00\x00\x00\x03\x02"));
+    row(20, open(b"\x01\x00\x02\x00\x00\x00\x03"));
+    row(9, open(b"\x00\x00\x01\x00\x01\x00\x05"));
+    row(10, open(b"\x01\x00\x02\x00\x01\x00\x07\x02"));
+    row(11, open(b"\x01\x00\x02\x00\x01\x00\x01\x02"));
+    row(12, open(b"\x01\x00\x02\x00\x01\x00\x03\x01"));
 }
 
 // 13 to 17: a place, a point, an area that is not there, a list that is too short, and a text whose first line is empty.
 fn call_rows() {
-    let stub = b"\x01\x00\x02\x00\x03\x02";
+    let stub = b"\x01\x00\x02\x00\x01\x00\x03\x02";
     row(13, of_place(map::cross(stub, Place(0))));
     row(14, of_count(map::degree(stub, Point(0))));
     row(15, of_count(map::sides(stub, Area(0))));
@@ -65,14 +71,14 @@ fn row(number: u8, came: u8) {
 // The number of packing's refusal, or 0 where it accepts.
 fn pack(turning: &[u16], marks: &[u8]) -> u8 {
     let mut work = [0u16; 12];
-    let mut out = [0u8; 1029];
+    let mut out = [0u8; LONGEST];
     pack_into(turning, marks, &mut work, &mut out)
 }
 
 // The same with an output that is one byte short.
 fn pack_short(turning: &[u16], marks: &[u8]) -> u8 {
     let mut work = [0u16; 12];
-    let mut out = [0u8; 1028];
+    let mut out = [0u8; SHORT];
     pack_into(turning, marks, &mut work, &mut out)
 }
 

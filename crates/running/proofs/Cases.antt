@@ -8,7 +8,7 @@ use Rattle.running.specs.Codes.{callOf, callsOf}
 use Rattle.running.specs.Runs.{ranOf, statusesAfter, answersAfter}
 
 abbrev triangleMap : List ℕ
-triangleMap = 0x03 ∷ 0x00 ∷ 0x03 ∷ 0x00 ∷ 0x1B ∷ 0x0C ∷ 0x02 ∷ []
+triangleMap = 0x03 ∷ 0x00 ∷ 0x03 ∷ 0x00 ∷ 0x02 ∷ 0x00 ∷ 0x1B ∷ 0x0C ∷ 0x02 ∷ []
 
 -- cross, point, along, turn, cross: the turn ends the session with a 0
 abbrev codes : List ℕ

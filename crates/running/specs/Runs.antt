@@ -5,7 +5,7 @@
 -- Room ks st an        == both lists have an entry for each call
 -- Leaves o p st an st′ an′ == p is the place that the outcome o leaves, and st′ and an′ are the lists st and an with its statuses and answers
 -- runOf ks k l o       == the outcome o of a session with the codes ks, after the checks 2 and `noCall`, k statuses and l answers being lent
--- ranOf s i ks k l     == a session on the map s from the first number i: 8 to 12, those checks, and the outcome
+-- ranOf s i ks k l     == a session on the map s from the first number i: opening's checks, those checks, and the outcome
 -- placeLeft a          == the place left at the end, or the refusal
 -- statusesAfter a old  == the list of statuses after a; old where the session declines
 -- answersAfter a old   == the list of answers, the same way
@@ -47,7 +47,7 @@ unfolding areCalls
 runOf ks k l o =
     pick (leb (length ks) k && leb (length ks) l) (pick (areCalls ks) (answer o) (refused noCall)) (refused 2)
 
--- 01: "Every call on map bytes runs 8 to 12, then its own."
+-- 01: "Every call on map bytes runs 8 to 12, then its own", and with them 20
 unfoldable pub ranOf : List ℕ → ℕ → List ℕ → ℕ → ℕ → Answer Outcome
 unfolding opened runOf mapSession callOf
 ranOf s i ks k l = opened s (runOf ks k l (mapSession s i (callsOf ks)))

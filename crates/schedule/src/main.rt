@@ -2,8 +2,10 @@
 use format::LONGEST;
 use scheduling::ROOM;
 ghost use mathlib.Core.Path.{_≡_};
+ghost use Prim.Native.Nat.{_+_};
 ghost use lib.ListN.{length};
 ghost use Rattle.drawing.specs.Laid.{laid};
+ghost use Rattle.format.specs.Bytes.{longest};
 ghost use Rattle.piping.specs.Heard.{heard};
 ghost use Rattle.text.specs.Listing.{refusedLine};
 ghost use Rattle.text.specs.Schedule.{scheduleOf};
@@ -34,7 +36,7 @@ fn respond(map: &[u8], next: isize, out: &mut [u8; ROOM]) -> usize
 }
 
 fn input() -> [u8; LIMIT]
-    ensures { λ r. ⌜ 1030 ≡ length r ⌝ }
+    ensures { λ r. ⌜ longest + 1 ≡ length r ⌝ }
 {
     [0; LIMIT]
 }

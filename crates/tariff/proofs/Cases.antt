@@ -49,7 +49,7 @@ tenths = tenth ∷ nan ∷ nan ∷ fifth ∷ nan ∷ nan ∷ threeTenths ∷ nan
 
 -- one unmarked loop: area 2 lies inside, across the one side of area 1
 abbrev enclaveMap : List ℕ
-enclaveMap = 0x01 ∷ 0x00 ∷ 0x01 ∷ 0x00 ∷ 0x00 ∷ 0x02 ∷ []
+enclaveMap = 0x01 ∷ 0x00 ∷ 0x01 ∷ 0x00 ∷ 0x02 ∷ 0x00 ∷ 0x00 ∷ 0x02 ∷ []
 
 -- the same, drawn
 abbrev enclave : Drawing
@@ -57,15 +57,15 @@ enclave = record { turning = 1 ∷ 0 ∷ []; marks = 0 ∷ []; start = 0 }
 
 -- one marked border: both its sides are of area 1
 abbrev stubMap : List ℕ
-stubMap = 0x01 ∷ 0x00 ∷ 0x02 ∷ 0x00 ∷ 0x03 ∷ 0x02 ∷ []
+stubMap = 0x01 ∷ 0x00 ∷ 0x02 ∷ 0x00 ∷ 0x01 ∷ 0x00 ∷ 0x03 ∷ 0x02 ∷ []
 
 -- three loops on one point, [ ] [ ] [ ]: areas 2, 3 and 4 lie across the sides of area 1 in this order
 abbrev threeMap : List ℕ
-threeMap = 0x03 ∷ 0x00 ∷ 0x01 ∷ 0x00 ∷ 0x00 ∷ 0x2a ∷ []
+threeMap = 0x03 ∷ 0x00 ∷ 0x01 ∷ 0x00 ∷ 0x04 ∷ 0x00 ∷ 0x00 ∷ 0x2a ∷ []
 
 -- ( [ ) ] [ ]: area 2 lies across two sides of area 1, and area 3 across one
 abbrev twiceMap : List ℕ
-twiceMap = 0x03 ∷ 0x00 ∷ 0x02 ∷ 0x00 ∷ 0x05 ∷ 0x02 ∷ 0x0a ∷ []
+twiceMap = 0x03 ∷ 0x00 ∷ 0x02 ∷ 0x00 ∷ 0x03 ∷ 0x00 ∷ 0x05 ∷ 0x02 ∷ 0x0a ∷ []
 
 -- numbers of two areas, of which the second is its own
 abbrev enclosed : Float → List Float

@@ -1,44 +1,37 @@
 -- The factor's checks in order: opening's, then 15, 18 and 19.
 --
 -- tested          == what three tests come to is what a chain of them does
--- own-order       == the checks after opening's
--- check-open      == the checks up to 12 are opening's
+-- own-chain       == the checks after opening's
+-- factor-chain    == the call's refusal is that of one chain, opening's checks and its own
 -- factor-order    == the factor of an area: refusals in order, or its factor
 -- Assumes nothing.
-use mathlib.Core.Path.{_≡_, refl, _∙_}
+use mathlib.Core.Path.{_≡_, refl, ap, _∙_}
 use mathlib.Core.Bool.{Bool, true, false}
-use mathlib.Core.List.{List, [], _∷_}
-use Prim.Native.Nat.{ℕ, _≤_}
+use mathlib.Core.List.{List, [], _∷_, _++_}
+use Prim.Native.Nat.{ℕ}
 use native.Mathlib.Omega.{arith}
-use lib.Dec.{eqb}
-use borrow.Author.Tests.{ne-eqb}
 use lib.Ieee.{Float}
-use Rattle.count.specs.Below.{Decides, pick}
-use Rattle.count.proofs.Logic.{pick-no}
+use Rattle.count.specs.Below.{pick}
 use Rattle.count.proofs.Decides.{decides-true}
 use Rattle.drawing.specs.Drawing.{Kind}
 use Rattle.drawing.specs.Session.{answer, refused}
 use Rattle.format.specs.Bytes.{sizeIn, wordIn}
-use Rattle.format.specs.Open.{OpenCheck, openRefusal, afterRefusal, opened, openOf}
+use Rattle.format.specs.Open.{openChecks, openRefusal, afterRefusal, opened}
 use Rattle.format.specs.Refusals.{InOrder, bare}
 use Rattle.format.specs.Calls.{cellsIn, isNumber, landingsIn}
-use Rattle.format.proofs.Chain.{chain, Chain, chain-in-order}
-use Rattle.format.proofs.Passes.{open-refusals}
-use Rattle.format.proofs.After.{after-order}
-use Rattle.tariff.specs.Tariff.{factorAt, TariffFits, tariffFits, sumAcross, hasFactor, rated}
+use Rattle.format.proofs.Chain.{chain, Chain, chain-append, chain-later, chain-in-order}
+use Rattle.format.proofs.Passes.{openTests, refusal-chain, open-chain}
+use Rattle.tariff.specs.Tariff.{factorAt, tariffFits, sumAcross, hasFactor, rated}
 use Rattle.tariff.specs.Maps.{factorOf}
-use Rattle.tariff.specs.Statements.{Priced, FactorCheck, factorIn}
+use Rattle.tariff.specs.Statements.{factorChecks, FactorCheck, factorIn}
 use Rattle.tariff.proofs.Lists.{tariff-decides, factor-decides}
 
-passes : Decides true Unit
-passes = record { sound = λ _. tt; complete = λ _. refl }
-
 -- three tests, of 15, 18 and 19
-abbrev tests : Bool → Bool → Bool → List Bool
-tests x y z = true ∷ true ∷ x ∷ true ∷ true ∷ y ∷ z ∷ []
+abbrev own : List ℕ
+own = 15 ∷ 18 ∷ 19 ∷ []
 
 tested : {A : Type 0} (x y z : Bool) (u : A)
-    → pick x (pick y (pick z (answer u) (refused 19)) (refused 18)) (refused 15) ≡ afterRefusal (chain (tests x y z) 13) (answer u)
+    → pick x (pick y (pick z (answer u) (refused 19)) (refused 18)) (refused 15) ≡ afterRefusal (chain own (x ∷ y ∷ z ∷ [])) (answer u)
 unfolding chain
 tested true true true u = refl
 tested true true false u = refl
@@ -55,42 +48,31 @@ module _ (s : List ℕ) (k : ℕ) (kinds : List ℕ) (values : List Float) where
   abbrev has : Bool
   has = hasFactor (factorAt kinds values k) (sumAcross kinds values (landingsIn (wordIn s) k))
 
-  own-chain : Chain P 13 (tests (isNumber (sizeIn s) Kind.area k) (tariffFits v kinds values) has)
+  abbrev tests : List Bool
+  tests = isNumber (sizeIn s) Kind.area k ∷ tariffFits v kinds values ∷ has ∷ []
+
+  own-chain : Chain P own tests
   unfolding sumAcross
   own-chain = (
-    passes,
+    omega arith,
+    decides-true (isNumber (sizeIn s) Kind.area k),
     λ _. (
-      passes,
-      λ _. (
-        decides-true (isNumber (sizeIn s) Kind.area k),
-        λ _. (
-          passes,
-          λ _. (
-            passes,
-            λ _. (tariff-decides v kinds values, λ _. (factor-decides (factorAt kinds values) k (landingsIn (wordIn s) k), λ _. tt)),
-          ),
-        ),
-      ),
+      omega arith,
+      tariff-decides v kinds values,
+      λ _. (omega arith, factor-decides (factorAt kinds values) k (landingsIn (wordIn s) k), λ _. tt),
     ),
   )
 
-  own-order : InOrder bare P 13 19 (factorIn s k kinds values)
-      (pick (isNumber (sizeIn s) Kind.area k) (rated v kinds values k (landingsIn (wordIn s) k)) (refused 15))
-  unfolding rated factorIn
-  own-order =
-      rw (tested (isNumber (sizeIn s) Kind.area k) (tariffFits v kinds values) has (factorIn s k kinds values))
-      (chain-in-order bare P 13 19 (tests (isNumber (sizeIn s) Kind.area k) (tariffFits v kinds values) has) (factorIn s k kinds values)
-      (omega arith) (omega arith) own-chain)
+  -- the whole call as one chain of checks
+  factor-chain : factorOf s k kinds values ≡ afterRefusal (chain factorChecks (openTests s ++ tests)) (answer (factorIn s k kinds values))
+  unfolding factorOf opened rated factorIn
+  factor-chain =
+      ap (afterRefusal (openRefusal s)) (tested (isNumber (sizeIn s) Kind.area k) (tariffFits v kinds values) has (factorIn s k kinds values))
+      ∙ ap (λ j. afterRefusal j (afterRefusal (chain own tests) (answer (factorIn s k kinds values)))) (refusal-chain s)
+      ∙ chain-later P openChecks own (openTests s) tests (answer (factorIn s k kinds values)) (open-chain s) refl
 
-  check-open : (j : ℕ) → j ≤ 12 → P j ≡ OpenCheck s j
-  check-open j l =
-      pick-no (eqb j 15) (isNumber (sizeIn s) Kind.area k ≡ true) _ (ne-eqb j 15 (omega arith))
-      ∙ pick-no (eqb j 18) (TariffFits v kinds values) _ (ne-eqb j 18 (omega arith))
-      ∙ pick-no (eqb j 19) (Priced (factorAt kinds values) k (landingsIn (wordIn s) k)) (OpenCheck s j) (ne-eqb j 19 (omega arith))
-
-  pub factor-order : InOrder bare P 8 19 (factorIn s k kinds values) (factorOf s k kinds values)
-  unfolding factorOf opened openOf
+  pub factor-order : InOrder bare P factorChecks (factorIn s k kinds values) (factorOf s k kinds values)
   factor-order =
-      after-order (OpenCheck s) P 8 12 19 (sizeIn s) (factorIn s k kinds values) (omega arith) (omega arith) check-open
-      (openRefusal s) (pick (isNumber (sizeIn s) Kind.area k) (rated v kinds values k (landingsIn (wordIn s) k)) (refused 15))
-      (open-refusals s) own-order
+      rw factor-chain
+      (chain-in-order bare P factorChecks (openTests s ++ tests) (factorIn s k kinds values)
+      (chain-append P openChecks own (openTests s) tests (open-chain s) refl own-chain))

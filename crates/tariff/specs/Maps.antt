@@ -1,6 +1,6 @@
 -- The factor of an area of a map, as a total function of the bytes, the number and the two lists.
 --
--- factorOf s k kinds values == 8 to 12, 15, 18, 19, or the factor of area k of the map s
+-- factorOf s k kinds values == opening's refusal, 15, 18, 19, or the factor of area k of the map s
 -- Assumes nothing.
 use mathlib.Core.List.{List}
 use Prim.Native.Nat.{ℕ}

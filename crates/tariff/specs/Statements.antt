@@ -2,6 +2,7 @@
 --
 -- Known f            == the factor f is known
 -- Priced t k js      == area k is known, or one of the areas js across its sides is; t is the factor of an area
+-- factorChecks       == the numbers of the call's checks, in the order in which they run
 -- FactorCheck s k kinds values j == the call passes check j; nothing is asked of a number that is none of its checks
 -- factorIn s k kinds values == the factor of area k by the lists, whatever the checks say
 -- uses b f           == whether a kind byte b uses its number f: 0 the factor, 1 the floor, 2 the ceiling
@@ -11,7 +12,7 @@
 use mathlib.Core.Path.{_≡_}
 use mathlib.Core.Logic.{_≢_, _⊎_}
 use mathlib.Core.Bool.{Bool, true}
-use mathlib.Core.List.{List}
+use mathlib.Core.List.{List, [], _∷_, _++_}
 use Prim.Native.Nat.{ℕ, _+_, _*_, _<_}
 use lib.Dec.{eqb}
 use lib.Ieee.{Float, binary64, nan, ofBits, le}
@@ -20,7 +21,7 @@ use Rattle.count.specs.Below.{pick}
 use Rattle.drawing.specs.Drawing.{Kind}
 use Rattle.drawing.specs.Session.{answer}
 use Rattle.format.specs.Bytes.{sizeIn, wordIn}
-use Rattle.format.specs.Open.{OpenCheck}
+use Rattle.format.specs.Open.{openChecks, OpenCheck}
 use Rattle.format.specs.Refusals.{InOrder, bare}
 use Rattle.format.specs.Calls.{cellsIn, isNumber, landingsIn}
 use Rattle.tariff.specs.declared.factor.Factor.{Factor}
@@ -35,6 +36,9 @@ abbrev pub Priced : (ℕ → Factor) → ℕ → List ℕ → Type 0
 Priced t k js = Known (t k) ⊎ ((i : ℕ) × (i < length js) × Known (t (getD js i 0)))
 
 -- 02: "both come after opening and 15, 18 first"
+abbrev pub factorChecks : List ℕ
+factorChecks = openChecks ++ (15 ∷ 18 ∷ 19 ∷ [])
+
 abbrev pub FactorCheck : List ℕ → ℕ → List ℕ → List Float → ℕ → Type 0
 FactorCheck s k kinds values j =
     pick (eqb j 15) (isNumber (sizeIn s) Kind.area k ≡ true)
@@ -59,7 +63,7 @@ pub record SameUsed (kinds : List ℕ) (values others : List Float) : Type 0 whe
 -- 1/128 and 128, so its bits are fixed (`bounded`): of a mean, rounding leaves no narrower claim that is as simple. What a kind
 -- doesn't use changes nothing (`unread`).
 pub record Factored (s : List ℕ) (k : ℕ) (kinds : List ℕ) (values : List Float) : Type 0 where
-  pub order : InOrder bare (FactorCheck s k kinds values) 8 19 (factorIn s k kinds values) (factorOf s k kinds values)
+  pub order : InOrder bare (FactorCheck s k kinds values) factorChecks (factorIn s k kinds values) (factorOf s k kinds values)
   pub only : (y : Float) → factorOf s k kinds values ≡ answer y → y ≡ factorIn s k kinds values
   pub own : (x : Float) → factorAt kinds values k ≡ Factor.Own x → factorIn s k kinds values ≡ x
   pub between : (x low high y : Float) → factorAt kinds values k ≡ Factor.Held x low high → factorOf s k kinds values ≡ answer y

@@ -22,9 +22,9 @@ pub record Cases : Type 0 where
   pub number-1 : readText (codes "border first second mark\n1 0 1 1\n") ≡ refused 17
   pub decimal-4096 : decimal 4096 ≡ codes "4096"
   -- document 02, 1/14: the triangle's schedule, the empty map's, and bytes that don't open
-  pub triangle : scheduleOf (0x03 ∷ 0x00 ∷ 0x03 ∷ 0x00 ∷ 0x1B ∷ 0x0C ∷ 0x02 ∷ [])
+  pub triangle : scheduleOf (0x03 ∷ 0x00 ∷ 0x03 ∷ 0x00 ∷ 0x02 ∷ 0x00 ∷ 0x1B ∷ 0x0C ∷ 0x02 ∷ [])
       ≡ codes " area  sides  first\n    1      3      1\n    2      3      4\ntotal      6\n"
-  pub empty : scheduleOf (0x00 ∷ 0x00 ∷ 0x01 ∷ 0x00 ∷ []) ≡ codes " area  sides  first\n    1      0      0\ntotal      0\n"
+  pub empty : scheduleOf (0x00 ∷ 0x00 ∷ 0x01 ∷ 0x00 ∷ 0x01 ∷ 0x00 ∷ []) ≡ codes " area  sides  first\n    1      0      0\ntotal      0\n"
   pub nothing : scheduleOf [] ≡ codes "refused 8\n"
   -- pages end after 50 areas, and no page is empty
   pub fifty : map (λ p. length p) (pagesOf (rows 50)) ≡ 50 ∷ []

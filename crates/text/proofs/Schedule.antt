@@ -6,7 +6,7 @@
 -- schedule-answers  == the sides and the first place in an area's line are those that the calls answer
 -- scheduled         == all of these, and that what is printed is made of these rows
 -- schedule-refused  == bytes that don't open get one line, `refused` and opening's number
--- schedule-cut      == what is printed for any bytes is what is printed for the first 1,030 of them
+-- schedule-cut      == what is printed for any bytes is what is printed for their first ones, one more than the longest map has
 -- Assumes nothing.
 use mathlib.Core.Path.{_≡_, refl, sym, ap, _∙_}
 use mathlib.Core.Logic.{_≢_, inl, inr}
@@ -198,7 +198,7 @@ long-refusal : (t : Bool) → unless t 8 9 ≢ 0
 long-refusal true = omega arith
 long-refusal false = omega arith
 
--- the program reads no more than 1,030 bytes
+-- the program reads one byte more than the longest map has, and no further
 pub schedule-cut : (s : List ℕ) → scheduleOf (take (longest + 1) s) ≡ scheduleOf s
 schedule-cut s =
     elim (lt-or-ge longest (length s)) [

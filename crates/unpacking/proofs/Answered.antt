@@ -1,7 +1,7 @@
 -- What unpacking answers and leaves in the lists: it declines, or the lists hold the drawing of the word.
 --
 -- Outcome s t k a t′ k′ == a is the answer for the bytes s and the lists t and k, and t′ and k′ are the lists after it
--- unpack-declines  == 8 to 12
+-- unpack-declines  == opening's refusal
 -- unpack-short-turning, unpack-short-marks == 16
 -- unpack-answers   == m, and the drawing
 -- Assumes nothing.

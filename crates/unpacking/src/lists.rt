@@ -21,7 +21,7 @@ ghost use Rattle.surveying.specs.Surveyed.{Mates};
 ghost use Rattle.unpacking.specs.Answers.{unpackedMeans};
 ghost use Rattle.unpacking.specs.Ended.{Ends};
 
-// Writes the drawing of the map and answers m, or declines: 8 to 12, then 16: "lists under 2m or m entries".
+// Writes the drawing of the map and answers m, or declines: opening's checks, then 16: "lists under 2m or m entries".
 pub fn unpack(map: &[u8], turning: &mut [u16], marks: &mut [u8]) -> Unpacked
     ensures { λ r. ⌜ unpackedMeans r ≡ bordersOf (unpackOf (now (map .entry)) (length (now (turning .entry))) (length (now (marks .entry)))) ⌝ }
     ensures { λ r. ⌜ now (turning .exit) ≡ turningAfter

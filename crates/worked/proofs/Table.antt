@@ -1,21 +1,24 @@
--- The examples of document 01's table, 1 to 17, and what unpacking gives, by computation. Assumes nothing.
+-- The examples of document 01's table, 1 to 17, of 20, of the two forms of cards, and what unpacking gives, by computation.
+-- Assumes nothing.
 use mathlib.Core.Path.{_≡_, refl}
 use mathlib.Core.List.{List, [], _∷_}
 use Rattle.drawing.specs.Drawing.{Kind}
 use Rattle.drawing.specs.Session.{answer, refusedWith, refused}
 use Rattle.format.specs.Bytes.{longest}
+use Rattle.format.specs.Before.{refusalBefore}
 use Rattle.format.specs.Calls.{crossOf, firstOf, sizeOf, joiningOf}
 use Rattle.format.specs.Open.{openOf}
 use Rattle.format.specs.Pack.{packOf, unpackOf}
 use Rattle.text.specs.Decimal.{codes}
 use Rattle.text.specs.Input.{readText}
 use Rattle.text.specs.Listing.{placesOf}
-use Rattle.worked.specs.Cases.{drawing, pack, empty, stub, stubMap, enclave, enclaveMap, triangle, triangleMap, figure1, figure1Map}
+use Rattle.worked.specs.Cases.{drawing, pack, empty, emptyMap, stub, stubMap, enclave, enclaveMap, triangle, triangleMap, figure1, figure1Map}
 
 -- the rows of packing: 1 to 7
 pub record PackRows : Type 0 where
   pub row-1 : pack (drawing (0 ∷ 1 ∷ 2 ∷ []) (1 ∷ [])) ≡ refused 1
-  pub row-2-output : packOf enclave 6 1028 ≡ refused 2
+  pub row-2-output : packOf enclave 6 1030 ≡ refused 2
+  pub row-2-enough : packOf enclave 6 1031 ≡ answer enclaveMap
   pub row-2-work : packOf enclave 5 longest ≡ refused 2
   pub row-3 : pack (drawing (0 ∷ 2 ∷ []) (1 ∷ [])) ≡ refused 3
   pub row-4 : pack (drawing (0 ∷ 0 ∷ []) (1 ∷ [])) ≡ refused 4
@@ -31,6 +34,7 @@ pack-rows =
     record {
       row-1 = refl;
       row-2-output = refl;
+      row-2-enough = refl;
       row-2-work = refl;
       row-3 = refl;
       row-4 = refl;
@@ -40,13 +44,20 @@ pack-rows =
       loops-6 = refl;
     }
 
--- the rows of calls on map bytes: 8 to 16
+-- the rows of calls on map bytes: 8 to 16, and 20
 pub record MapRows : Type 0 where
+  -- without the field, and with it: n is 0, so there is no right count
   pub row-8 : openOf (0x00 ∷ 0x00 ∷ 0x00 ∷ 0x00 ∷ []) ≡ refused 8
-  pub row-9 : openOf (0x00 ∷ 0x00 ∷ 0x01 ∷ 0x00 ∷ 0x05 ∷ []) ≡ refused 9
-  pub row-10 : openOf (0x01 ∷ 0x00 ∷ 0x02 ∷ 0x00 ∷ 0x07 ∷ 0x02 ∷ []) ≡ refused 10
-  pub row-11 : openOf (0x01 ∷ 0x00 ∷ 0x02 ∷ 0x00 ∷ 0x01 ∷ 0x02 ∷ []) ≡ refused 11
-  pub row-12 : openOf (0x01 ∷ 0x00 ∷ 0x02 ∷ 0x00 ∷ 0x03 ∷ 0x01 ∷ []) ≡ refused 12
+  pub row-8-counted : openOf (0x00 ∷ 0x00 ∷ 0x00 ∷ 0x00 ∷ 0x02 ∷ 0x00 ∷ []) ≡ refused 8
+  pub row-8-short : openOf (0x00 ∷ 0x00 ∷ 0x01 ∷ 0x00 ∷ 0x01 ∷ []) ≡ refused 8
+  -- the count is looked at before the length
+  pub row-20 : openOf (0x01 ∷ 0x00 ∷ 0x02 ∷ 0x00 ∷ 0x00 ∷ 0x00 ∷ 0x03 ∷ 0x02 ∷ []) ≡ refused 20
+  pub row-20-cut : openOf (0x01 ∷ 0x00 ∷ 0x02 ∷ 0x00 ∷ 0x00 ∷ 0x00 ∷ 0x03 ∷ []) ≡ refused 20
+  pub row-20-exchanged : openOf (0x01 ∷ 0x00 ∷ 0x02 ∷ 0x00 ∷ 0x00 ∷ 0x01 ∷ 0x03 ∷ 0x02 ∷ []) ≡ refused 20
+  pub row-9 : openOf (0x00 ∷ 0x00 ∷ 0x01 ∷ 0x00 ∷ 0x01 ∷ 0x00 ∷ 0x05 ∷ []) ≡ refused 9
+  pub row-10 : openOf (0x01 ∷ 0x00 ∷ 0x02 ∷ 0x00 ∷ 0x01 ∷ 0x00 ∷ 0x07 ∷ 0x02 ∷ []) ≡ refused 10
+  pub row-11 : openOf (0x01 ∷ 0x00 ∷ 0x02 ∷ 0x00 ∷ 0x01 ∷ 0x00 ∷ 0x01 ∷ 0x02 ∷ []) ≡ refused 11
+  pub row-12 : openOf (0x01 ∷ 0x00 ∷ 0x02 ∷ 0x00 ∷ 0x01 ∷ 0x00 ∷ 0x03 ∷ 0x01 ∷ []) ≡ refused 12
   pub row-13 : crossOf stubMap 0 ≡ refused 13
   pub row-13-high : crossOf stubMap 65537 ≡ refused 13
   pub row-14 : firstOf stubMap Kind.point 0 ≡ refused 14
@@ -59,6 +70,11 @@ unfolding openOf crossOf firstOf joiningOf sizeOf unpackOf
 map-rows =
     record {
       row-8 = refl;
+      row-8-counted = refl;
+      row-8-short = refl;
+      row-20 = refl;
+      row-20-cut = refl;
+      row-20-exchanged = refl;
       row-9 = refl;
       row-10 = refl;
       row-11 = refl;
@@ -69,6 +85,32 @@ map-rows =
       row-14-joining = refl;
       row-15 = refl;
       row-16 = refl;
+    }
+
+-- cards of before 02, 6/14, in a program of today, and a card of today in a box already sold
+pub record BothForms : Type 0 where
+  pub then-triangle : refusalBefore (0x03 ∷ 0x00 ∷ 0x03 ∷ 0x00 ∷ 0x1B ∷ 0x0C ∷ 0x02 ∷ []) ≡ 0
+  pub now-triangle : openOf (0x03 ∷ 0x00 ∷ 0x03 ∷ 0x00 ∷ 0x1B ∷ 0x0C ∷ 0x02 ∷ []) ≡ refused 20
+  pub then-empty : refusalBefore (0x00 ∷ 0x00 ∷ 0x01 ∷ 0x00 ∷ []) ≡ 0
+  pub now-empty : openOf (0x00 ∷ 0x00 ∷ 0x01 ∷ 0x00 ∷ []) ≡ refused 8
+  -- A begins with 05 00, and there are five areas
+  pub then-five : refusalBefore (0x05 ∷ 0x00 ∷ 0x02 ∷ 0x00 ∷ 0x05 ∷ 0x00 ∷ 0x02 ∷ 0xAA ∷ []) ≡ 0
+  pub now-five : openOf (0x05 ∷ 0x00 ∷ 0x02 ∷ 0x00 ∷ 0x05 ∷ 0x00 ∷ 0x02 ∷ 0xAA ∷ []) ≡ refused 9
+  pub sold-triangle : refusalBefore triangleMap ≡ 9
+  pub sold-empty : refusalBefore emptyMap ≡ 9
+
+pub both-forms : BothForms
+unfolding refusalBefore openOf
+both-forms =
+    record {
+      then-triangle = refl;
+      now-triangle = refl;
+      then-empty = refl;
+      now-empty = refl;
+      then-five = refl;
+      now-five = refl;
+      sold-triangle = refl;
+      sold-empty = refl;
     }
 
 -- 17, and the line that `places` prints for a refusal

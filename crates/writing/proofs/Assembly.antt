@@ -7,34 +7,27 @@
 -- map-strung       == the strings' bytes are zero before they are written
 -- map-long, map-written == at the end the map's length is right, and its bytes are there
 -- Assumes nothing.
-use mathlib.Core.Path.{_≡_, sym, ap, _∙_}
-use mathlib.Core.List.{List, _∷_, _++_, append-assoc}
-use Prim.Native.Nat.{ℕ, _+_, _-_, _*_, _/_, _%_, _<_, _≤_}
+use mathlib.Core.Path.{_≡_, sym, ap, ap₂, _∙_}
+use mathlib.Core.List.{List, _++_, append-assoc}
+use Prim.Native.Nat.{ℕ, _+_, _-_, _*_, _<_, _≤_}
 use native.Mathlib.Omega.{arith}
-use lib.ListN.{length, getD, take, drop, length-drop, take-append-drop}
-use lib.Seq.{getD-drop, drop-drop, drop-cons, ext-getD}
+use lib.ListN.{length, getD, take, drop, length-take, length-drop, take-append-drop, List·getD-append}
+use lib.Seq.{getD-take, getD-drop, drop-drop, ext-getD}
 use Rattle.count.specs.Below.{count}
 use Rattle.count.proofs.Below.{count-zero}
 use Rattle.words.specs.declared.family.Family.{Family}
 use Rattle.words.specs.declared.family.Family.the-variants.{Round as round, Square as square}
 use Rattle.words.specs.Word.{Word}
 use Rattle.bits.specs.Strings.{bytesFor}
-use Rattle.format.specs.Bytes.{longest, header, Size, bitsB, startB, mapLength, stringA, stringB, bytesOf, mapBytes}
+use Rattle.drawing.specs.Laid.{laid}
+use Rattle.format.specs.Bytes.{longest, header, Size, headerOf, bitsB, startB, mapLength, stringA, stringB, bytesOf, mapBytes}
 use Rattle.format.proofs.Bits.{EachBelow}
 use Rattle.format.proofs.Strings.{inFamily, families-all, string-a-length, string-a-bits, string-b-length, string-b-bits}
 use Rattle.format.proofs.Parts.{Lengths, map-length}
 use Rattle.touring.specs.Working.{Zeroed}
-use Rattle.writing.specs.Writing.{wordAt, Legible, Sized, Holds, Headed, Strung, Grown}
-use Rattle.writing.proofs.Holding.{blank-holds, holds-part}
+use Rattle.writing.specs.Writing.{wordAt, Legible, Sized, Holds, Strung, Grown}
+use Rattle.writing.proofs.Holding.{laid-length, laid-after, blank-holds, holds-part}
 use Rattle.writing.proofs.Filling.{word-length}
-
-four-first : (s : List ℕ) → header ≤ length s → s ≡ getD s 0 0 ∷ getD s 1 0 ∷ getD s 2 0 ∷ getD s 3 0 ∷ drop 4 s
-four-first s l =
-    let one : ℕ → ℕ = λ i. getD s i 0 in
-    drop-cons s 0 0 (omega arith)
-    ∙ ap (λ t. one 0 ∷ t) (drop-cons s 1 0 (omega arith))
-    ∙ ap (λ t. one 0 ∷ one 1 ∷ t) (drop-cons s 2 0 (omega arith))
-    ∙ ap (λ t. one 0 ∷ one 1 ∷ one 2 ∷ t) (drop-cons s 3 0 (omega arith))
 
 pub split-part : (s : List ℕ) (at : ℕ) (bits : List ℕ) (k : ℕ) → EachBelow 2 bits → Holds s at bits (length bits) → bytesFor (length bits) ≡ k
     → drop at s ≡ bytesOf bits ++ drop (at + k) s
@@ -99,13 +92,16 @@ module _ (ms w : List ℕ) (n : ℕ) (L : Legible ms w) (Z : Sized n ms w) where
       pub map-fits : header + a + b + c ≤ length s0
       map-fits = omega (arith, short)
 
-      -- the first k bytes made 0, and then y and x for the header: here k is the map's length, and y and x are m and n
-      module _ (k : ℕ) (s1 : List ℕ) (Z1 : Zeroed 0 k s0 s1) (far : header + a + b + c ≤ k) (y x : ℕ) (s2 : List ℕ) (h : Headed y x s1 s2) where
+      -- the first k bytes made 0, and then the header of y: here k is the map's length, and y has m and n
+      module _ (k : ℕ) (s1 : List ℕ) (Z1 : Zeroed 0 k s0 s1) (far : header + a + b + c ≤ k) (y : Size) (s2 : List ℕ) (h : s2 ≡ laid (headerOf y) s1) where
         long-two : length s2 ≡ length s0
-        long-two = h .outside .same-length ∙ Z1 .outside .same-length
+        long-two = ap length h ∙ laid-length y s1 (omega (arith, Z1 .outside .same-length)) ∙ Z1 .outside .same-length
+
+        later-two : (i : ℕ) → header ≤ i → getD s2 i 0 ≡ getD s1 i 0
+        later-two i l = ap (λ s. getD s i 0) h ∙ laid-after y s1 i l
 
         blank-two : (i : ℕ) → header ≤ i → i < header + a + b + c → getD s2 i 0 ≡ 0
-        blank-two i l g = h .outside .after i l ∙ Z1 .zero i (omega arith) (omega arith)
+        blank-two i l g = later-two i l ∙ Z1 .zero i (omega arith) (omega arith)
 
         pub map-strung : Strung ms w (header + a) (header + a + b) 0 0 s2
         map-strung =
@@ -144,35 +140,31 @@ module _ (ms w : List ℕ) (n : ℕ) (L : Legible ms w) (Z : Sized n ms w) where
               (λ i l.
               getD-drop e s3 i 0
               ∙ G .outside .after (e + i) (omega (arith, s-bytes))
-              ∙ h .outside .after (e + i) (omega arith)
+              ∙ later-two (e + i) (omega arith)
               ∙ Z1 .outside .after (e + i) (omega arith)
               ∙ sym (getD-drop e s0 i 0))
 
-          front : (i : ℕ) → i < header → getD s3 i 0 ≡ getD s2 i 0
-          front i l = G .outside .before i l
+          front : take header s3 ≡ headerOf y
+          front =
+              ext-getD 0 (take header s3) (headerOf y) (omega (arith, length-take header s3, long-three))
+              (λ i l.
+              let g : i < header = omega (arith, length-take header s3) in
+              getD-take header s3 i 0 g ∙ G .outside .before i g ∙ ap (λ s. getD s i 0) h ∙ List·getD-append (headerOf y) (drop header s1) 0 i g)
 
-          pub map-written : k ≡ header + a + b + c → y ≡ length ms → x ≡ n → s3 ≡ mapBytes z W ++ drop (length (mapBytes z W)) s0
+          pub map-written : k ≡ header + a + b + c → y ≡ z → s3 ≡ mapBytes z W ++ drop (length (mapBytes z W)) s0
           unfolding mapBytes
-          map-written ends ym xn =
+          map-written ends same =
               let e = header + a + b + c in
-              let x0 : getD s3 0 0 ≡ length ms % 256 = front 0 (omega arith) ∙ h .m-low ∙ ap (λ v. v % 256) ym in
-              let x1 : getD s3 1 0 ≡ length ms / 256 % 256 = front 1 (omega arith) ∙ h .m-high ∙ ap (λ v. v / 256 % 256) ym in
-              let x2 : getD s3 2 0 ≡ n % 256 = front 2 (omega arith) ∙ h .n-low ∙ ap (λ v. v % 256) xn in
-              let x3 : getD s3 3 0 ≡ n / 256 % 256 = front 3 (omega arith) ∙ h .n-high ∙ ap (λ v. v / 256 % 256) xn in
-              let rest : drop 4 s3 ≡ bytesOf A ++ (bytesOf (B round) ++ (bytesOf (B square) ++ drop e s0))
+              let rest : drop header s3 ≡ bytesOf A ++ (bytesOf (B round) ++ (bytesOf (B square) ++ drop e s0))
               = split-part s3 header A a (string-a-bits W) a-whole a-bytes
               ∙ ap (λ t. bytesOf A ++ t)
               (split-part s3 (header + a) (B round) b (string-b-bits W round) b-whole b-bytes
               ∙ ap (λ t. bytesOf (B round) ++ t)
               (split-part s3 (header + a + b) (B square) c (string-b-bits W square) s-whole s-bytes ∙ ap (λ t. bytesOf (B square) ++ t) (beyond ends))) in
               let grouped : (P Q R d : List ℕ) → P ++ (Q ++ (R ++ d)) ≡ (P ++ (Q ++ R)) ++ d = λ P Q R d. simp append-assoc in
-              let whole : (x y u v : ℕ) (t : List ℕ) → getD s3 0 0 ≡ x → getD s3 1 0 ≡ y → getD s3 2 0 ≡ u → getD s3 3 0 ≡ v → drop 4 s3 ≡ t
-              → s3 ≡ x ∷ y ∷ u ∷ v ∷ t
-              = λ x y u v t p q r o d. four-first s3 (omega (arith, long-three, room)) ∙ rw (p, q, r, o, d) in
-              whole (length ms % 256) (length ms / 256 % 256) (n % 256) (n / 256 % 256)
-              (bytesOf A ++ (bytesOf (B round) ++ (bytesOf (B square) ++ drop e s0))) x0 x1 x2 x3 rest
-              ∙ ap (λ t. length ms % 256 ∷ length ms / 256 % 256 ∷ n % 256 ∷ n / 256 % 256 ∷ t)
-              (grouped (bytesOf A) (bytesOf (B round)) (bytesOf (B square)) (drop e s0))
+              sym (take-append-drop header s3)
+              ∙ ap₂ (λ p q. p ++ q) (front ∙ ap headerOf same) rest
+              ∙ ap (λ t. headerOf z ++ t) (grouped (bytesOf A) (bytesOf (B round)) (bytesOf (B square)) (drop e s0))
               ∙ ap (λ k. mapBytes z W ++ drop k s0) map-long
 
 pub ruleset far-all = (map-whole, map-fits)

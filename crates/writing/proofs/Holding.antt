@@ -1,7 +1,7 @@
 -- What bytes hold: zeros, and the bits of a string.
 --
--- header-two, header-three == the header's bytes are there
--- headed-is        == the four bytes of the header, and the others as before
+-- headed-is        == three numbers of two bytes each are the header
+-- laid-length, laid-after == it changes no length, and no byte after it
 -- zeroing-..       == the first bytes made 0, one after another
 -- blank-holds      == zeroed bytes hold no bits yet
 -- holds-more       == one bit more
@@ -13,65 +13,53 @@
 use mathlib.Core.Path.{_≡_, refl, sym, ap, _∙_}
 use mathlib.Core.Logic.{_≢_, inl, inr}
 use mathlib.Core.Bool.{Bool}
-use mathlib.Core.List.{List}
-use Prim.Native.Nat.{ℕ, _+_, _*_, _/_, _%_, _^_, _<_, _≤_}
+use mathlib.Core.List.{List, [], _∷_, _++_}
+use Prim.Native.Nat.{ℕ, _+_, _-_, _*_, _/_, _%_, _^_, _<_, _≤_}
 use native.Mathlib.Nat.{zero-div}
 use native.Mathlib.Omega.{arith}
 use borrow.Author.Needs.{needs}
 use lib.ListN.{length, getD, set, take, drop, length-set, length-take, length-drop, List·getD-eq-default}
-use lib.Seq.{getD-set-same, getD-set-other, getD-take, getD-drop}
+use lib.Seq.{getD-set-same, getD-set-other, getD-append-add, getD-take, getD-drop}
 use Rattle.count.specs.Below.{pick}
 use Rattle.count.proofs.Logic.{same-or-not, lt-or-ge}
 use Rattle.bits.specs.Strings.{bit, bytesFor}
 use Rattle.bits.specs.Writes.{withBit, setBit}
 use Rattle.bits.proofs.Laws.{bit-past}
 use Rattle.bits.proofs.Stores.{set-bit-length, set-bit-here, set-bit-other, set-bit-small}
-use Rattle.format.specs.Bytes.{longest, header, bytesOf}
+use Rattle.drawing.specs.Laid.{laid}
+use Rattle.format.specs.Bytes.{longest, header, atM, atN, atAreas, Size, areasOf, headerOf, bytesOf}
 use Rattle.format.proofs.Bits.{EachBelow, each-below, bytes-of-length, bytes-of-bit, bytes-of-small, bytes-same}
 use Rattle.touring.specs.Working.{Outside, Zeroed}
-use Rattle.writing.specs.Writing.{Holds, Headed}
+use Rattle.writing.specs.Writing.{Holds, withTwo}
 use Rattle.touring.proofs.Outside.{outside-none, outside-set}
 
 -- ---- write_header
-pub header-two : (s : List ℕ) (a : ℕ) → header ≤ length s → 1 < length (set s 0 a)
-header-two s a l = omega (arith, length-set s 0 a)
+-- six bytes, one pair after another
+six-first : (z : Size) (s : List ℕ) → header ≤ length s
+    → withTwo (withTwo (withTwo s atM (z .m)) atN (z .n)) atAreas (areasOf z) ≡ laid (headerOf z) s
+six-first z [] l = absurd (omega arith)
+six-first z (a ∷ []) l = absurd (omega arith)
+six-first z (a ∷ b ∷ []) l = absurd (omega arith)
+six-first z (a ∷ b ∷ c ∷ []) l = absurd (omega arith)
+six-first z (a ∷ b ∷ c ∷ d ∷ []) l = absurd (omega arith)
+six-first z (a ∷ b ∷ c ∷ d ∷ e ∷ []) l = absurd (omega arith)
+six-first z (a ∷ b ∷ c ∷ d ∷ e ∷ f ∷ s) l = refl
 
-pub header-three : (s : List ℕ) (a b : ℕ) → header ≤ length s → 2 < length (set (set s 0 a) 1 b)
-header-three s a b l = omega (arith, length-set s 0 a, length-set (set s 0 a) 1 b)
+pub headed-is : (m n : ℕ) (s t u v : List ℕ) → header ≤ length s → t ≡ withTwo s atM m → u ≡ withTwo t atN n → v ≡ withTwo u atAreas (m + 2 - n)
+    → v ≡ laid (headerOf (record { m = m; n = n })) s
+headed-is m n s t u v l p q r =
+    r ∙ ap (λ x. withTwo x atAreas (m + 2 - n)) (q ∙ ap (λ x. withTwo x atN n) p) ∙ six-first (record { m = m; n = n }) s l
 
-pub headed-is : (m n : ℕ) (s : List ℕ) → header ≤ length s
-    → Headed m n s (set (set (set (set s 0 (m % 256)) 1 (m / 256 % 256)) 2 (n % 256)) 3 (n / 256 % 256))
-headed-is m n s l =
-    let a = set s 0 (m % 256) in
-    let b = set a 1 (m / 256 % 256) in
-    let c = set b 2 (n % 256) in
-    let d : ℕ = n / 256 % 256 in
-    let la = length-set s 0 (m % 256) in
-    let lb = length-set a 1 (m / 256 % 256) in
-    let lc = length-set b 2 (n % 256) in
-    record {
-      m-low =
-          getD-set-other c 3 0 d 0 (omega arith)
-          ∙ getD-set-other b 2 0 (n % 256) 0 (omega arith)
-          ∙ getD-set-other a 1 0 (m / 256 % 256) 0 (omega arith)
-          ∙ getD-set-same s 0 (m % 256) 0 (omega arith);
-      m-high =
-          getD-set-other c 3 1 d 0 (omega arith)
-          ∙ getD-set-other b 2 1 (n % 256) 0 (omega arith)
-          ∙ getD-set-same a 1 (m / 256 % 256) 0 (omega arith);
-      n-low = getD-set-other c 3 2 d 0 (omega arith) ∙ getD-set-same b 2 (n % 256) 0 (omega arith);
-      n-high = getD-set-same c 3 d 0 (omega arith);
-      outside =
-          outside-set 0 header s c 3 d
-          (outside-set 0 header s b 2 (n % 256)
-          (outside-set 0 header s a 1 (m / 256 % 256)
-          (outside-set 0 header s s 0 (m % 256) (outside-none 0 header s) (omega arith) (omega arith))
-          (omega arith) (omega arith))
-          (omega arith) (omega arith))
-          (omega arith) (omega arith);
-    }
+pub laid-length : (z : Size) (s : List ℕ) → header ≤ length s → length (laid (headerOf z) s) ≡ length s
+laid-length z s l = omega (arith, length-drop header s)
 
-pub ruleset header-all = (header-two, header-three, needs)
+pub laid-after : (z : Size) (s : List ℕ) (i : ℕ) → header ≤ i → getD (laid (headerOf z) s) i 0 ≡ getD s i 0
+laid-after z s i l =
+    let e : header + (i - header) ≡ i = omega arith in
+    ap (λ x. getD (laid (headerOf z) s) x 0) (sym e)
+    ∙ getD-append-add (headerOf z) (drop header s) (i - header) 0
+    ∙ getD-drop header s (i - header) 0
+    ∙ ap (λ x. getD s x 0) e
 
 -- ---- zero
 pub record Zeroing (k : ℕ) (old : List ℕ) (i : ℕ) (s : List ℕ) : Type 0 where

@@ -9,13 +9,13 @@
 -- Strung ms w b c p q s == A stands in s after the header, B from byte b on, B* from byte c on, none over another: A has the bits of
 --                     the first p positions, B and B* those of the first q, and zeros follow
 -- Grown ms w b c p old new == new is old, but has so the bits of the first p positions
--- Headed m n old new == new is old with m and n for its first four bytes
+-- withTwo s i x    == s with x in the two bytes at i, low byte first
 -- Assumes nothing.
 use mathlib.Core.Path.{_≡_}
 use mathlib.Core.List.{List}
 use Prim.Native.Nat.{ℕ, _+_, _-_, _*_, _/_, _%_, _<_, _≤_}
 use lib.Dec.{eqb}
-use lib.ListN.{length, getD}
+use lib.ListN.{length, getD, set}
 use Rattle.count.specs.Below.{pick, count}
 use Rattle.words.specs.declared.family.Family.{Family}
 use Rattle.words.specs.declared.family.Family.the-variants.{Round as round, Square as square}
@@ -71,9 +71,5 @@ pub record Grown (ms w : List ℕ) (b c p : ℕ) (old new : List ℕ) : Type 0 w
   pub strung : Strung ms w b c p p new
   pub outside : Outside header (c + bytesFor (length (stringB square (wordAt ms w)))) old new
 
-pub record Headed (m n : ℕ) (old new : List ℕ) : Type 0 where
-  pub m-low : getD new 0 0 ≡ m % 256
-  pub m-high : getD new 1 0 ≡ m / 256 % 256
-  pub n-low : getD new 2 0 ≡ n % 256
-  pub n-high : getD new 3 0 ≡ n / 256 % 256
-  pub outside : Outside 0 header old new
+abbrev pub withTwo : List ℕ → ℕ → ℕ → List ℕ
+withTwo s i x = set (set s i (x % 256)) (i + 1) (x / 256 % 256)

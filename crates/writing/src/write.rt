@@ -1,5 +1,8 @@
 // The map's bytes: the header, then A, B and B*, each from a fresh byte.
 use bits::bytes_for;
+use format::AT_AREAS;
+use format::AT_M;
+use format::AT_N;
 use format::HEADER;
 use touring::border_in;
 ghost use mathlib.Core.Path.{_≡_};
@@ -8,10 +11,11 @@ ghost use lib.ListN.{length};
 ghost use Rattle.count.specs.Below.{pick};
 ghost use Rattle.words.specs.Word.{sameFamily};
 ghost use Rattle.words.specs.declared.family.Family.the-variants.{Round as round};
+ghost use Rattle.drawing.specs.Drawing.{mostBorders};
 ghost use Rattle.drawing.specs.Laid.{laid};
-ghost use Rattle.format.specs.Bytes.{longest, header};
+ghost use Rattle.format.specs.Bytes.{longest, header, headerOf};
 ghost use Rattle.touring.specs.Working.{Zeroed};
-ghost use Rattle.writing.specs.Writing.{wordAt, letters, chartBytes, Legible, Sized, Headed, Strung, Grown};
+ghost use Rattle.writing.specs.Writing.{wordAt, letters, chartBytes, Legible, Sized, withTwo, Strung, Grown};
 
 // Writes the map of the chart in `work`, with n points. Its length.
 pub fn write_map(marks: &[u8], n: usize, work: &[u16], out: &mut [u8]) -> usize
@@ -41,15 +45,23 @@ fn zero(out: &mut [u8], k: usize)
     }
 }
 
-// m, then n, each two bytes, low byte first.
+// The header: m, n and the count of areas.
 fn write_header(out: &mut [u8], m: usize, n: usize)
-    requires { ⌜ header ≤ length (now out) ⌝ }
-    ensures { λ _. ⌜ Headed m n (now (out .entry)) (now (out .exit)) ⌝ }
+    requires { ⌜ (header ≤ length (now out)) × (m ≤ mostBorders) × (n ≤ m + 1) ⌝ }
+    ensures { λ _. ⌜ now (out .exit) ≡ laid (headerOf (record { m = m; n = n })) (now (out .entry)) ⌝ }
 {
-    out[0] = (m % 256) as u8;
-    out[1] = (m / 256 % 256) as u8;
-    out[2] = (n % 256) as u8;
-    out[3] = (n / 256 % 256) as u8;
+    put_two(out, AT_M, m);
+    put_two(out, AT_N, n);
+    put_two(out, AT_AREAS, m + 2 - n);
+}
+
+// x in the two bytes at i, low byte first.
+fn put_two(out: &mut [u8], i: usize, x: usize)
+    requires { ⌜ i + 1 < length (now out) ⌝ }
+    ensures { λ _. ⌜ now (out .exit) ≡ withTwo (now (out .entry)) i x ⌝ }
+{
+    out[i] = (x % 256) as u8;
+    out[i + 1] = (x / 256 % 256) as u8;
 }
 
 // A, and from bytes b and c on B and B*, in one pass over the positions.

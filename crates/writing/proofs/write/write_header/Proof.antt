@@ -1,34 +1,26 @@
 -- `writing::write::write_header` meets its contract. Assumes nothing.
-use Rattle.writing.proofs.Holding.{headed-is, header-all}
+use Rattle.writing.proofs.Holding.{headed-is}
+use borrow.Author.Needs.{needs}
 use Rattle.writing.proofs.write.write_header.Statement.{statement}
 use Rattle.writing.proofs.write.write_header.Tie as tie
 
-cast-out : tie.Need-cast-out
-cast-out c = search header-all
+put-two-requires : tie.Need-put-two-requires
+put-two-requires c κs = search needs
 
-slice-write-out : tie.Need-slice-write-out
-slice-write-out c = search header-all
+put-two-requires-2 : tie.Need-put-two-requires-2
+put-two-requires-2 c κs = search needs
 
-cast-out-2 : tie.Need-cast-out-2
-cast-out-2 c = search header-all
+add-put-two : tie.Need-add-put-two
+add-put-two c = search needs
 
-slice-write-out-2 : tie.Need-slice-write-out-2
-slice-write-out-2 c = search header-all
+sub-put-two : tie.Need-sub-put-two
+sub-put-two c = search needs
 
-cast-out-3 : tie.Need-cast-out-3
-cast-out-3 c = search header-all
-
-slice-write-out-3 : tie.Need-slice-write-out-3
-slice-write-out-3 c = search header-all
-
-cast-out-4 : tie.Need-cast-out-4
-cast-out-4 c = search header-all
-
-slice-write-out-4 : tie.Need-slice-write-out-4
-slice-write-out-4 c = search header-all
+put-two-requires-3 : tie.Need-put-two-requires-3
+put-two-requires-3 c κs = search needs
 
 same-length : tie.Need-same-length
-same-length c = search header-all
+same-length c = search needs
 
 returns : tie.Need-returns
 returns c = search headed-is
@@ -37,13 +29,10 @@ pub write-header-spec : {M : Type 1} → statement M
 write-header-spec =
     tie.close
     (tie.spec
-    cast-out
-    slice-write-out
-    cast-out-2
-    slice-write-out-2
-    cast-out-3
-    slice-write-out-3
-    cast-out-4
-    slice-write-out-4
+    put-two-requires
+    put-two-requires-2
+    add-put-two
+    sub-put-two
+    put-two-requires-3
     same-length
     returns)

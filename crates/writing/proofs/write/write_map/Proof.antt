@@ -53,7 +53,7 @@ write-strings-requires c κs =
     let z = h .before .before .before .before in
     let l = z .before .before in
     let p = l .before .before .before .before .before .before .pre in
-    (p .0, map-strung _ _ _ (p .0) (p .1) _ _ _ (l .before .before .bytes-for .ensures .0) (l .before .bytes-for2 .ensures .0) (l .bytes-for3 .ensures .0) _ (p .2) _ _ (z .zero .ensures) (search far-all) _ _ _ (h .write-header .ensures))
+    (p .0, map-strung _ _ _ (p .0) (p .1) _ _ _ (l .before .before .bytes-for .ensures .0) (l .before .bytes-for2 .ensures .0) (l .bytes-for3 .ensures .0) _ (p .2) _ _ (z .zero .ensures) (search far-all) _ _ (h .write-header .ensures))
 
 same-length : tie.Need-same-length
 same-length c = search needs
@@ -65,7 +65,7 @@ returns c =
     let z = h .before .before .before .before in
     let l = z .before .before in
     let p = l .before .before .before .before .before .before .pre in
-    (map-long _ _ _ (p .0) (p .1) _ _ _ (l .before .before .bytes-for .ensures .0) (l .before .bytes-for2 .ensures .0) (l .bytes-for3 .ensures .0), map-written _ _ _ (p .0) (p .1) _ _ _ (l .before .before .bytes-for .ensures .0) (l .before .bytes-for2 .ensures .0) (l .bytes-for3 .ensures .0) _ (p .2) _ _ (z .zero .ensures) (search far-all) _ _ _ (h .write-header .ensures) _ (s .write-strings .ensures) refl refl refl)
+    (map-long _ _ _ (p .0) (p .1) _ _ _ (l .before .before .bytes-for .ensures .0) (l .before .bytes-for2 .ensures .0) (l .bytes-for3 .ensures .0), map-written _ _ _ (p .0) (p .1) _ _ _ (l .before .before .bytes-for .ensures .0) (l .before .bytes-for2 .ensures .0) (l .bytes-for3 .ensures .0) _ (p .2) _ _ (z .zero .ensures) (search far-all) _ _ (h .write-header .ensures) _ (s .write-strings .ensures) refl refl)
 
 pub write-map-spec : {M : Type 1} → statement M
 write-map-spec =

@@ -1,0 +1,39 @@
+-- The cards of document 01, before document 02, 6/14: m, n and the three strings, without the count of areas. For the theorem
+-- `one-form` alone: no program of today reads them.
+--
+-- counted s       == the bytes s with the count of areas put in after n
+-- refusalBefore s == what the program of document 01 gives on opening s: the first of its checks 8 to 12 that applies, or 0
+-- OpensBefore s   == s is a byte string that it accepts
+-- OneForm s       == neither program takes the other's card for its own, and what each gives for it
+-- Assumes nothing.
+use mathlib.Core.Path.{_≡_}
+use mathlib.Core.Bool.{not}
+use mathlib.Core.List.{List, _++_}
+use Prim.Native.Nat.{ℕ}
+use lib.ListN.{take, drop}
+use lib.Dec.{eqb}
+use Rattle.format.specs.Bytes.{EachBelow, atAreas, le16, areasOf, sizeIn}
+use Rattle.format.specs.Open.{unless, areasFit, openRefusal, Opens}
+
+-- 02, 6/14: "Two bytes, low first, follow n and hold m-n+2." Where they stand now, A began.
+unfoldable pub counted : List ℕ → List ℕ
+unfolding sizeIn
+counted s = take atAreas s ++ (le16 (areasOf (sizeIn s)) ++ drop atAreas s)
+
+-- 02, 6/14: "Boxes already sold keep their cards and program." With the right count put in, all other checks say of the bytes what
+-- they said of them before.
+unfoldable pub refusalBefore : List ℕ → ℕ
+unfolding openRefusal counted
+refusalBefore s = openRefusal (counted s)
+
+pub record OpensBefore (s : List ℕ) : Type 0 where
+  pub bytes : EachBelow 256 s
+  pub passes : refusalBefore s ≡ 0
+
+-- A box already sold gives 9 for every card of today: it is two bytes too long. A program of today gives 8 for the map without
+-- borders, which had four bytes, and for every other card of then 20 or, where the first two bytes of its strings happen to
+-- be the count of areas, 9.
+pub record OneForm (s : List ℕ) : Type 0 where
+  pub one : Opens s → OpensBefore s → ⊥
+  pub sold-box : Opens s → refusalBefore s ≡ 9
+  pub old-card : OpensBefore s → openRefusal s ≡ unless (not (eqb (sizeIn s .m) 0)) 8 (unless (areasFit s) 20 9)
