@@ -1,5 +1,5 @@
 /* Calls made of an answer, once for each way to hold a map: `held` is what a call builds from the bytes, `check` builds it and
-   gives the status of 8 to 12. It has m, n and places. In an answer x is what was built, p the position and k the number. */
+   gives the status of opening. It has m, n and places. In an answer x is what was built, p the position and k the number. */
 #ifndef ANSWERS_H
 #define ANSWERS_H
 

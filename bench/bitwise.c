@@ -1,6 +1,7 @@
 /* (a) The same checks and the same calls, bit by bit in plain C. */
 #include "answers.h"
 #include "calls.h"
+#include "card.h"
 #include "tariff.h"
 
 struct strings {
@@ -85,21 +86,18 @@ static size_t partner(const uint8_t *s, size_t bits, size_t i)
 static uint8_t refuse(const uint8_t *map, size_t length, struct strings *x)
 {
     size_t bytes_a, bytes_b;
+    uint8_t status = read_header(map, length, &x->m, &x->n);
 
-    if (length < 4)
-        return 8;
-    x->m = map[0] + 256u * map[1];
-    x->n = map[2] + 256u * map[3];
-    if (x->m > 2048 || x->n < 1 || x->n > x->m + 1)
-        return 8;
+    if (status != 0)
+        return status;
     x->places = 2 * x->m;
     x->length[1] = 2 * x->n - 2;
     x->length[0] = 2 * (x->m + 1 - x->n);
     bytes_a = (x->places + 7) / 8;
     bytes_b = (x->length[1] + 7) / 8;
-    if (length != 4 + bytes_a + bytes_b + (x->length[0] + 7) / 8)
+    if (length != HEADER + bytes_a + bytes_b + (x->length[0] + 7) / 8)
         return 9;
-    x->a = map + 4;
+    x->a = map + HEADER;
     x->b[1] = x->a + bytes_a;
     x->b[0] = x->b[1] + bytes_b;
     if (!unused_zero(x->a, x->places) || !unused_zero(x->b[1], x->length[1]) || !unused_zero(x->b[0], x->length[0]))

@@ -3,6 +3,7 @@
    or of every area, which is the schedule. */
 #include "answers.h"
 #include "calls.h"
+#include "card.h"
 #include "lines.h"
 #include "pages.h"
 #include "tariff.h"
@@ -21,28 +22,25 @@ static int bit(const uint8_t *s, size_t i)
     return s[i / 8] >> (i % 8) & 1;
 }
 
-/* Checks 8 to 12 and all arrays, in one reading of the strings. */
+/* Opening's checks and all arrays, in one reading of the strings. */
 static uint8_t build(const uint8_t *map, size_t length, struct arrays *x)
 {
     uint16_t stack[2][MOST / 2 + 1], opened[2][MOST / 2 + 1];
     size_t bits[2], depth[2] = { 0, 0 }, at[2] = { 0, 0 }, found[2] = { 1, 1 }, bytes_a, bytes_b, p, i;
     const uint8_t *a, *b[2];
     size_t ones = 0;
+    uint8_t status = read_header(map, length, &x->m, &x->n);
 
-    if (length < 4)
-        return 8;
-    x->m = map[0] + 256u * map[1];
-    x->n = map[2] + 256u * map[3];
-    if (x->m > 2048 || x->n < 1 || x->n > x->m + 1)
-        return 8;
+    if (status != 0)
+        return status;
     x->places = 2 * x->m;
     bits[1] = 2 * x->n - 2;
     bits[0] = 2 * (x->m + 1 - x->n);
     bytes_a = (x->places + 7) / 8;
     bytes_b = (bits[1] + 7) / 8;
-    if (length != 4 + bytes_a + bytes_b + (bits[0] + 7) / 8)
+    if (length != HEADER + bytes_a + bytes_b + (bits[0] + 7) / 8)
         return 9;
-    a = map + 4;
+    a = map + HEADER;
     b[1] = a + bytes_a;
     b[0] = b[1] + bytes_b;
     for (i = x->places; i % 8 != 0; i++)

@@ -3,6 +3,7 @@
 #include <cstdio>
 
 #include "calls.h"
+#include "card.h"
 #include "lines.h"
 #include "maps.h"
 #include "pages.h"
@@ -32,7 +33,7 @@ size_t single_calls_listing(const uint8_t *map, size_t length, uint8_t *out)
     uint8_t status = pmap_open(map, length, &m, &n);
     if (status != PMAP_OK)
         return put_refusal(out, status);
-    const uint8_t *a = map + 4, *strings[2] = { a + (2 * m + 7) / 8 + (2 * n - 2 + 7) / 8, a + (2 * m + 7) / 8 };
+    const uint8_t *a = map + HEADER, *strings[2] = { a + (2 * m + 7) / 8 + (2 * n - 2 + 7) / 8, a + (2 * m + 7) / 8 };
     size_t unread[2] = { 0, 0 };
     uint8_t *at = put_heading(out);
     for (size_t place = 1; place <= 2 * size_t(m); place++) {

@@ -13,6 +13,7 @@
 #include <cstdlib>
 
 #include "calls.h"
+#include "card.h"
 
 const char *const kind_names[ALL_KINDS] = { "random", "loops", "nests", "triangles", "star", "path", "tree", "mixed" };
 
@@ -67,7 +68,8 @@ static void put(std::vector<uint8_t> &bytes, const std::vector<bool> &s)
 static std::vector<uint8_t> assemble(size_t m, const std::vector<bool> &a, const std::vector<bool> &b, const std::vector<bool> &s)
 {
     size_t n = b.size() / 2 + 1;
-    std::vector<uint8_t> bytes = { uint8_t(m), uint8_t(m >> 8), uint8_t(n), uint8_t(n >> 8) };
+    std::vector<uint8_t> bytes(HEADER);
+    put_header(bytes.data(), m, n);
     put(bytes, a);
     put(bytes, b);
     put(bytes, s);
@@ -165,7 +167,7 @@ std::vector<uint8_t> make_map(kind k, size_t m)
     if (k == NESTS)
         return assemble(m, mixed(m / 2 * 2, 2 * m), nest(m / 2), nest(m - m / 2));
     drawing d = triangulate(m);
-    std::vector<uint8_t> bytes(1029);
+    std::vector<uint8_t> bytes(LONGEST);
     std::vector<uint16_t> work(6 * m);
     uint16_t length = 0;
     if (plain_pack(d.turning.data(), d.turning.size(), d.marks.data(), m, 0, work.data(), work.size(), bytes.data(), bytes.size(), &length) != 0)
@@ -184,12 +186,12 @@ std::vector<std::vector<uint8_t>> make_maps(kind k, size_t m)
 
 size_t borders(const std::vector<uint8_t> &map)
 {
-    return map[0] + 256u * map[1];
+    return two_at(map.data(), AT_M);
 }
 
 size_t points(const std::vector<uint8_t> &map)
 {
-    return map[2] + 256u * map[3];
+    return two_at(map.data(), AT_N);
 }
 
 std::vector<std::vector<uint8_t>> damaged(const std::vector<uint8_t> &map)

@@ -3,6 +3,7 @@
 #include <vector>
 
 #include "calls.h"
+#include "card.h"
 
 namespace {
 
@@ -83,7 +84,7 @@ extern "C" uint32_t plain_pack(const uint16_t *turning, size_t ends, const uint8
 {
     if (ends % 2 != 0 || ends > 4096 || m != ends / 2)
         return 1;
-    if (work_length < 6 * m || out_length < 1029)
+    if (work_length < 6 * m || out_length < LONGEST)
         return 2;
     if (m == 0 ? start != 0 : start >= ends)
         return 3;
@@ -120,7 +121,7 @@ extern "C" uint32_t plain_pack(const uint16_t *turning, size_t ends, const uint8
         a[p] = marks[tour[p] / 2] == 1;
         b[a[p]].push_back(second[p]);
     }
-    out[0] = uint8_t(m), out[1] = uint8_t(m >> 8), out[2] = uint8_t(n), out[3] = uint8_t(n >> 8);
-    *length = uint16_t(put(out, put(out, put(out, 4, a), b[1]), b[0]));
+    put_header(out, m, n);
+    *length = uint16_t(put(out, put(out, put(out, HEADER, a), b[1]), b[0]));
     return 0;
 }

@@ -66,12 +66,14 @@ static inline size_t end_pages(struct pages *p)
     return (size_t)(p->at - p->out);
 }
 
-/* The line of a refusal, 8 to 12. Gives its length. */
+/* The line of a refusal of opening. Gives its length. */
 static inline size_t put_refusal(uint8_t *out, uint8_t status)
 {
     struct pages p = begin_pages(out);
 
-    put(&p, status < 10 ? "refused " : "refused 1", status < 10 ? 8 : 9);
+    put(&p, "refused ", 8);
+    if (status >= 10)
+        *p.at++ = (uint8_t)('0' + status / 10);
     *p.at++ = (uint8_t)('0' + status % 10);
     put(&p, "\n", 1);
     return (size_t)(p.at - p.out);

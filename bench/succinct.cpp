@@ -6,6 +6,7 @@
 #include <vector>
 
 #include "calls.h"
+#include "card.h"
 
 namespace {
 
@@ -54,18 +55,14 @@ bool balanced(const uint8_t *s, size_t length)
 
 uint8_t build(const uint8_t *map, size_t length, structures &x)
 {
-    if (length < 4)
-        return 8;
-    x.m = map[0] + 256u * map[1];
-    x.n = map[2] + 256u * map[3];
-    if (x.m > 2048 || x.n < 1 || x.n > x.m + 1)
-        return 8;
+    if (uint8_t status = read_header(map, length, &x.m, &x.n))
+        return status;
     x.places = 2 * x.m;
     size_t count[2] = { 2 * (x.m + 1 - x.n), 2 * x.n - 2 };
     size_t bytes_a = (x.places + 7) / 8, bytes_b = (count[1] + 7) / 8;
-    if (length != 4 + bytes_a + bytes_b + (count[0] + 7) / 8)
+    if (length != HEADER + bytes_a + bytes_b + (count[0] + 7) / 8)
         return 9;
-    const uint8_t *a = map + 4, *b[2] = { a + bytes_a + bytes_b, a + bytes_a };
+    const uint8_t *a = map + HEADER, *b[2] = { a + bytes_a + bytes_b, a + bytes_a };
     bool zero = load(a, x.places, false, x.of[1].at);
     load(a, x.places, true, x.of[0].at);
     for (int v = 0; v < 2; v++)

@@ -25,7 +25,9 @@ static inline const char *what_is_wrong(uint8_t status)
 {
     switch (status) {
     case PMAP_HEADER:
-        return "the card has no proper header: it is shorter than 4 bytes, or its numbers of borders and points can't be";
+        return "the card has no proper header: it is too short for one, or its numbers of borders and points can't be";
+    case PMAP_AREAS:
+        return "the card's count of areas is not that of its borders and points: it is damaged, or of another form than this box reads";
     case PMAP_LENGTH:
         return "the card is cut short or too long: its length is not the one that its header gives";
     case PMAP_UNUSED_BIT:

@@ -10,6 +10,12 @@
  * places are 1 to 2m. Points are 1 to n, areas are 1 to m-n+2. The three kinds of numbers are not to be mixed up: place
  * 3 has nothing to do with point 3 or area 3. An answer of place 0 means that there is none, where a call says so.
  *
+ * Bytes. A map begins with three numbers of two bytes each, low byte first: m at byte 0, n at byte 2, and the count of areas,
+ * m-n+2, at byte 4. Three strings of bits follow, each from a fresh byte, the first bit lowest, unused bits 0: 2m bits that
+ * say which places are of marked borders, 2n-2 for the marked and 2(m-n+1) for the unmarked places in order, 0 at a border's
+ * first place, 1 at its second. docs/GUIDE.md has the offsets as a table. Cards made before the count was put on them, whose
+ * strings begin at byte 4, are refused with 8, 20 or 9; docs/REFUSALS.md says which.
+ *
  * Drawings. Border e of a drawing, 0 to m-1, has the ends 2e and 2e+1. Entry h of the turning list is the end that
  * follows end h counterclockwise about its point; there are 2m entries. The marks have one byte for each border: 1 for a
  * border of the spanning tree, else 0. The tour begins at the start, an end (0 if m is 0). Only pmap_pack and
@@ -17,8 +23,9 @@
  *
  * Status. Every function returns 0 (PMAP_OK) and writes its answer, or it returns the number of the first check that
  * fails, in the order of the list below, and then it has written nothing: every out cell and every out list holds what
- * it held before. Every call on a map runs the checks 8 to 12 on the whole map first, so that pmap_session tests 2 after
- * them. pmap_pack returns two border numbers beside the status, and says what it leaves in its working list.
+ * it held before. Every call on a map runs the checks 8, 20, 9, 10, 11, 12 on the whole map first, in this order, so that
+ * pmap_session tests 2 after them. pmap_pack returns two border numbers beside the status, and says what it leaves in its
+ * working list.
  *
  * Memory. `map` points to map_len readable bytes, with no alignment asked for; it may be NULL if map_len is 0. So it is
  * with every list: turning_len, marks_len, work_len, out_len, calls_len, statuses_len, answers_len, kinds_len and values_len
@@ -56,14 +63,15 @@ extern "C" {
 enum {
     PMAP_OK = 0,           /* success: the answer was written */
     PMAP_LISTS = 1,        /* turning_len is odd or over 4,096, or marks_len is not half of it */
-    PMAP_ROOM = 2,         /* pmap_pack: work_len is under 6m, or out_len under 1,029;
+    PMAP_ROOM = 2,         /* pmap_pack: work_len is under 6m, or out_len under PMAP_LONGEST;
                               pmap_session: statuses_len or answers_len is under calls_len */
     PMAP_RANGE = 3,        /* an entry or the start is not below 2m (m = 0: the start is not 0), or a mark is over 1 */
     PMAP_REPEATED = 4,     /* two entries of the turning list are equal */
     PMAP_APART = 5,        /* the marked borders don't join all points */
     PMAP_MANY_MARKS = 6,   /* they do, and there are more of them than n-1 */
     PMAP_CROSSING = 7,     /* two unmarked borders alternate in the tour: PMAP_SMALLER and PMAP_LARGER name them */
-    PMAP_HEADER = 8,       /* under 4 bytes, m over 2,048, or n not 1 to m+1 */
+    PMAP_HEADER = 8,       /* too few bytes for a header, m over 2,048, or n not 1 to m+1 */
+    PMAP_AREAS = 20,       /* the count of areas in the header is not m-n+2; tested between 8 and 9 */
     PMAP_LENGTH = 9,       /* map_len is not the length that the header gives */
     PMAP_UNUSED_BIT = 10,  /* a bit that belongs to no string is 1 */
     PMAP_MARKS = 11,       /* the string A has not 2n-2 ones */
@@ -96,7 +104,7 @@ enum {
 };
 
 /* The length of the longest map, in bytes. A buffer of PMAP_LONGEST + 1 tells a card that is too long from one that isn't. */
-#define PMAP_LONGEST 1029
+#define PMAP_LONGEST 1031
 
 /* The greatest number of borders: a turning list has at most twice as many entries. */
 #define PMAP_MOST_BORDERS 2048
@@ -117,7 +125,7 @@ enum {
 #define PMAP_LARGER(packed) ((uint16_t)((packed) >> 20 & 0xfff))
 
 /*
- * Packs a drawing: writes the bytes of its map to the beginning of `out`, and their number, at most 1,029, to *length.
+ * Packs a drawing: writes the bytes of its map to the beginning of `out`, and their number, at most PMAP_LONGEST, to *length.
  * Nothing after them is touched. m is marks_len, and turning_len is to be 2m.
  *
  * `work` is a working list of at least 6m entries, whatever they hold. With 1, 2 and 3 it is left as it was. After any
@@ -139,74 +147,74 @@ uint32_t pmap_pack(const uint16_t *turning, size_t turning_len, const uint8_t *m
  * borders to *m. Nothing after them is touched. Borders are numbered by their first places, the first place of a border
  * is its even end, and the start is end 0: packing that drawing from there gives the same map again. With any refusal
  * both lists and *m are left as they were.
- * Status: 0, 8, 9, 10, 11, 12, 16.
+ * Status: 0, 8, 20, 9, 10, 11, 12, 16.
  */
 uint8_t pmap_unpack(const uint8_t *map, size_t map_len, uint16_t *turning, size_t turning_len, uint8_t *marks,
                     size_t marks_len, uint16_t *m);
 
 /*
  * Opens a map: checks its bytes, and writes the number of borders to *m and the number of points to *n.
- * Status: 0, 8, 9, 10, 11, 12.
+ * Status: 0, 8, 20, 9, 10, 11, 12.
  */
 uint8_t pmap_open(const uint8_t *map, size_t map_len, uint16_t *m, uint16_t *n);
 
 /*
  * A move: the place on the other side of the border, which is the place of the border's other end.
- * Status: 0, 8, 9, 10, 11, 12, 13.
+ * Status: 0, 8, 20, 9, 10, 11, 12, 13.
  */
 uint8_t pmap_cross(const uint8_t *map, size_t map_len, size_t place, uint16_t *out);
 
 /*
  * A move: the next place counterclockwise about the point; 0 at the point's last place.
- * Status: 0, 8, 9, 10, 11, 12, 13.
+ * Status: 0, 8, 20, 9, 10, 11, 12, 13.
  */
 uint8_t pmap_turn(const uint8_t *map, size_t map_len, size_t place, uint16_t *out);
 
 /*
  * A move: the place before this one about the point; 0 at the point's first place.
- * Status: 0, 8, 9, 10, 11, 12, 13.
+ * Status: 0, 8, 20, 9, 10, 11, 12, 13.
  */
 uint8_t pmap_turn_back(const uint8_t *map, size_t map_len, size_t place, uint16_t *out);
 
 /*
  * A move: the next place on the walk along the borders of the area. The walk is closed: it is never 0.
- * Status: 0, 8, 9, 10, 11, 12, 13.
+ * Status: 0, 8, 20, 9, 10, 11, 12, 13.
  */
 uint8_t pmap_along(const uint8_t *map, size_t map_len, size_t place, uint16_t *out);
 
 /*
  * The point at which the place is.
- * Status: 0, 8, 9, 10, 11, 12, 13.
+ * Status: 0, 8, 20, 9, 10, 11, 12, 13.
  */
 uint8_t pmap_point(const uint8_t *map, size_t map_len, size_t place, uint16_t *out);
 
 /*
  * The area that the place borders. What lies across the border is the area of pmap_cross's answer.
- * Status: 0, 8, 9, 10, 11, 12, 13.
+ * Status: 0, 8, 20, 9, 10, 11, 12, 13.
  */
 uint8_t pmap_area(const uint8_t *map, size_t map_len, size_t place, uint16_t *out);
 
 /*
  * The point's first place, its lowest; 0 if the map has no borders.
- * Status: 0, 8, 9, 10, 11, 12, 14.
+ * Status: 0, 8, 20, 9, 10, 11, 12, 14.
  */
 uint8_t pmap_point_first(const uint8_t *map, size_t map_len, size_t point, uint16_t *out);
 
 /*
  * How many places the point has: its degree. A border with both ends at the point counts twice.
- * Status: 0, 8, 9, 10, 11, 12, 14.
+ * Status: 0, 8, 20, 9, 10, 11, 12, 14.
  */
 uint8_t pmap_degree(const uint8_t *map, size_t map_len, size_t point, uint16_t *out);
 
 /*
  * The area's first place, its lowest; 0 if the map has no borders.
- * Status: 0, 8, 9, 10, 11, 12, 15.
+ * Status: 0, 8, 20, 9, 10, 11, 12, 15.
  */
 uint8_t pmap_area_first(const uint8_t *map, size_t map_len, size_t area, uint16_t *out);
 
 /*
  * How many places the area has: its sides. A border with the area on both sides counts twice.
- * Status: 0, 8, 9, 10, 11, 12, 15.
+ * Status: 0, 8, 20, 9, 10, 11, 12, 15.
  */
 uint8_t pmap_sides(const uint8_t *map, size_t map_len, size_t area, uint16_t *out);
 
@@ -215,7 +223,7 @@ uint8_t pmap_sides(const uint8_t *map, size_t map_len, size_t area, uint16_t *ou
  * borders the two share, and the area itself never counts. The area across a side is that of pmap_cross's answer. The
  * count is at most that of pmap_sides; it is 0 if the map has no borders, or if both sides of each border of the area
  * are the area's own.
- * Status: 0, 8, 9, 10, 11, 12, 15.
+ * Status: 0, 8, 20, 9, 10, 11, 12, 15.
  */
 uint8_t pmap_neighbours(const uint8_t *map, size_t map_len, size_t area, uint16_t *out);
 
@@ -237,7 +245,7 @@ uint8_t pmap_neighbours(const uint8_t *map, size_t map_len, size_t area, uint16_
  * its ceiling; the factor may lie outside the two. Otherwise the status is 18, whichever area was asked for. What a kind
  * doesn't use may be anything, a NaN too, and changes nothing. The status is 19 if the factor of the area asked for is not
  * known and none was added, so also if the map has no borders.
- * Status: 0, 8, 9, 10, 11, 12, 15, 18, 19.
+ * Status: 0, 8, 20, 9, 10, 11, 12, 15, 18, 19.
  */
 uint8_t pmap_factor(const uint8_t *map, size_t map_len, size_t area, const uint8_t *kinds, size_t kinds_len,
                     const double *values, size_t values_len, double *out);
@@ -245,7 +253,7 @@ uint8_t pmap_factor(const uint8_t *map, size_t map_len, size_t area, const uint8
 /*
  * The joining border of points u and v: the first place about u, in turning order from u's first place, whose crossing
  * lands at v; 0 if no border joins them. With u = v it finds a border that has both ends there.
- * Status: 0, 8, 9, 10, 11, 12, 14 (u or v is not a point).
+ * Status: 0, 8, 20, 9, 10, 11, 12, 14 (u or v is not a point).
  */
 uint8_t pmap_joining(const uint8_t *map, size_t map_len, size_t u, size_t v, uint16_t *out);
 
@@ -259,9 +267,9 @@ uint8_t pmap_joining(const uint8_t *map, size_t map_len, size_t u, size_t v, uin
  * has the answer 0, and the place stays: after a 0 every call gets 13. The place left at the end goes to *place. The
  * first calls_len entries of the two lists are written, and nothing after them is touched.
  *
- * The checks of the session itself run in the order 8 to 12, 2 (a list is shorter than the calls), 255 (a code is over
- * 5). With any of these refusals both lists and *place are left as they were.
- * Status: 0, 8, 9, 10, 11, 12, 2, 255.
+ * The checks of the session itself run in the order 8, 20, 9 to 12, 2 (a list is shorter than the calls), 255 (a code is
+ * over 5). With any of these refusals both lists and *place are left as they were.
+ * Status: 0, 8, 20, 9, 10, 11, 12, 2, 255.
  */
 uint8_t pmap_session(const uint8_t *map, size_t map_len, size_t first, const uint8_t *calls, size_t calls_len,
                      uint8_t *statuses, size_t statuses_len, uint16_t *answers, size_t answers_len, size_t *place);

@@ -13,18 +13,17 @@ static void put_bit(uint8_t *string, size_t i, int bit)
 size_t pack(const struct book *b, uint8_t *map)
 {
     const struct drawing *d = b->drawing;
-    size_t start_b = 4 + bytes_of(2 * d->m), start_b_star = start_b + bytes_of(2 * b->n - 2);
-    size_t length = start_b_star + bytes_of(2 * (d->m + 1 - b->n)), at[2] = {0, 0}, i;
+    size_t start_b = HEADER + bytes_of(2 * d->m), start_b_star = start_b + bytes_of(2 * b->n - 2);
+    size_t length = HEADER + strings_length(d->m, b->n), at[2] = {0, 0}, i;
 
     memset(map, 0, length);
-    map[0] = (uint8_t)(d->m % 256);
-    map[1] = (uint8_t)(d->m / 256);
-    map[2] = (uint8_t)(b->n % 256);
-    map[3] = (uint8_t)(b->n / 256);
+    put_field(map, AT_M, d->m);
+    put_field(map, AT_N, b->n);
+    put_field(map, AT_AREAS, b->areas);
     for (i = 1; i <= 2 * d->m; i++) {
         size_t h = b->end_at[i];
         int kind = marked(d, h), second = b->place_of[other(h)] < i;
-        put_bit(map + 4, i - 1, kind);
+        put_bit(map + HEADER, i - 1, kind);
         put_bit(map + (kind ? start_b : start_b_star), at[kind]++, second);
     }
     return length;

@@ -34,11 +34,10 @@ static void put_bit(uint8_t *string, size_t i, unsigned bit)
 static void put_header(struct card *card, size_t m, size_t n)
 {
     memset(card->bytes, 0, sizeof card->bytes);
-    card->length = 4 + bytes_of(2 * m) + bytes_of(2 * n - 2) + bytes_of(2 * (m + 1 - n));
-    card->bytes[0] = (uint8_t)(m % 256);
-    card->bytes[1] = (uint8_t)(m / 256);
-    card->bytes[2] = (uint8_t)(n % 256);
-    card->bytes[3] = (uint8_t)(n / 256);
+    card->length = HEADER + strings_length(m, n);
+    put_field(card->bytes, AT_M, m);
+    put_field(card->bytes, AT_N, n);
+    put_field(card->bytes, AT_AREAS, m + 2 - n);
 }
 
 /* 2k balanced bits; 0 opens. */
@@ -59,7 +58,7 @@ static void put_balanced(uint8_t *string, size_t k, unsigned lean)
 
 void random_card(struct card *card, size_t m, size_t n, unsigned lean)
 {
-    uint8_t *a = card->bytes + 4, *b = a + bytes_of(2 * m), *b_star = b + bytes_of(2 * n - 2);
+    uint8_t *a = card->bytes + HEADER, *b = a + bytes_of(2 * m), *b_star = b + bytes_of(2 * n - 2);
     size_t i, ones = 2 * n - 2;
 
     put_header(card, m, n);
@@ -76,7 +75,7 @@ void random_card(struct card *card, size_t m, size_t n, unsigned lean)
 void card_of_strings(struct card *card, size_t m, size_t n, uint64_t strings)
 {
     size_t bits[3] = {2 * m, 2 * n - 2, 2 * (m + 1 - n)}, k, i;
-    uint8_t *string = card->bytes + 4;
+    uint8_t *string = card->bytes + HEADER;
 
     put_header(card, m, n);
     for (k = 0; k < 3; k++) {
@@ -91,7 +90,7 @@ void card_of_strings(struct card *card, size_t m, size_t n, uint64_t strings)
 void card_of_kinds(struct card *card, const char *kinds)
 {
     size_t places = strlen(kinds), marked = 0, at[2] = {0, 0}, i;
-    uint8_t *a = card->bytes + 4, *b = a + bytes_of(places), *b_star;
+    uint8_t *a = card->bytes + HEADER, *b = a + bytes_of(places), *b_star;
 
     for (i = 0; i < places; i++) marked += strchr("()", kinds[i]) != NULL;
     b_star = b + bytes_of(marked);

@@ -18,10 +18,18 @@ void each_string(size_t most, try_bytes *try)
             }
 }
 
+size_t without_count(const uint8_t *card, size_t length, uint8_t *old)
+{
+    memcpy(old, card, AT_AREAS);
+    memcpy(old + AT_AREAS, card + HEADER, length - HEADER);
+    return length - (HEADER - AT_AREAS);
+}
+
 void each_damage(const uint8_t *card, size_t length, try_bytes *try)
 {
     uint8_t copy[LONGEST + 1];
-    size_t i;
+    size_t i = without_count(card, length, copy);
+    try(copy, i);
     for (i = 0; i < length; i++) try(card, i);
     memcpy(copy, card, length);
     for (i = 0; i < 256; i += 51) {
@@ -35,23 +43,27 @@ void each_damage(const uint8_t *card, size_t length, try_bytes *try)
     }
 }
 
+/* The right count of areas, others beside it, and it with its bytes exchanged; lengths about the one that m and n give. */
+static void each_count(uint8_t *bytes, size_t m, size_t n, try_bytes *try)
+{
+    size_t right = (m + 2 - n) % 65536, counts[] = {right, right + 1, right + 65535, right + 256, right % 256 * 256 + right / 256, n, 0, 65535};
+    size_t length = HEADER + (n >= 1 && n <= m + 1 ? strings_length(m, n) : bytes_of(2 * m)), k, add;
+    put_field(bytes, AT_M, m);
+    put_field(bytes, AT_N, n);
+    for (k = 0; k < sizeof counts / sizeof *counts; k++) {
+        put_field(bytes, AT_AREAS, counts[k] % 65536);
+        for (add = 0; add < 3; add++)
+            if (length + add - 1 <= MOST_BYTES) try(bytes, length + add - 1);
+    }
+}
+
 void each_header(try_bytes *try)
 {
     static const size_t m_values[] = {0, 1, 2, 4, 5, 255, 256, 2047, 2048, 2049, 4096, 32768, 65535};
     static uint8_t bytes[MOST_BYTES];
-    size_t i, j, add;
+    size_t i, j;
     for (i = 0; i < sizeof m_values / sizeof *m_values; i++) {
         size_t m = m_values[i], n_values[] = {0, 1, 2, m / 2, m, m + 1, m + 2, 2 * m, 65535};
-        for (j = 0; j < sizeof n_values / sizeof *n_values; j++) {
-            size_t n = n_values[j] % 65536, length = 4 + bytes_of(2 * m);
-            if (n >= 1 && n <= m + 1) length += bytes_of(2 * n - 2) + bytes_of(2 * (m + 1 - n));
-            memset(bytes, 0, sizeof bytes);
-            bytes[0] = (uint8_t)(m % 256);
-            bytes[1] = (uint8_t)(m / 256);
-            bytes[2] = (uint8_t)(n % 256);
-            bytes[3] = (uint8_t)(n / 256);
-            for (add = 0; add < 3; add++)
-                if (length + add - 1 <= sizeof bytes) try(bytes, length + add - 1);
-        }
+        for (j = 0; j < sizeof n_values / sizeof *n_values; j++) each_count(bytes, m, n_values[j] % 65536, try);
     }
 }

@@ -13,10 +13,14 @@ typedef void try_bytes(const uint8_t *bytes, size_t length);
 /* Cards of up to `most` borders with every string of the right length, balanced or not. */
 void each_string(size_t most, try_bytes *try);
 
-/* Every prefix of a card, the card with a byte more, and every single bit of it flipped. */
+/* A card as it was made before request 6/14, without the count of areas. Gives its length. */
+size_t without_count(const uint8_t *card, size_t length, uint8_t *old);
+
+/* The card without its count, every prefix of it, the card with a byte more, and every single bit of it flipped. */
 void each_damage(const uint8_t *card, size_t length, try_bytes *try);
 
-/* m and n about every bound, with lengths about the one that they give; all strings are 0. */
+/* m and n about every bound, with the right count of areas and others, and with lengths about the one that they give; all strings
+   are 0. */
 void each_header(try_bytes *try);
 
 #endif

@@ -1,6 +1,8 @@
 /* What is wrong with a drawing or with a card, and unpacking. */
 #include "reference.h"
 
+#include <string.h>
+
 size_t other(size_t h)
 {
     return h % 2 == 0 ? h + 1 : h - 1;
@@ -146,7 +148,7 @@ uint8_t pack_refusal(const struct lent *lent, struct drawing *d)
 {
     size_t i;
     if (lent->turning_len % 2 == 1 || lent->turning_len > 4096 || lent->marks_len != lent->turning_len / 2) return 1;
-    if (lent->work_len < 6 * lent->marks_len || lent->out_len < 1029) return 2;
+    if (lent->work_len < 6 * lent->marks_len || lent->out_len < LONGEST) return 2;
     d->m = lent->marks_len;
     d->start = lent->start;
     for (i = 0; i < lent->turning_len; i++) d->turning[i] = lent->turning[i];
@@ -154,7 +156,18 @@ uint8_t pack_refusal(const struct lent *lent, struct drawing *d)
     return drawing_refusal(d);
 }
 
-/* ---- 8 to 12, and unpacking ---- */
+/* ---- 8, 20, 9 to 12, and unpacking ---- */
+
+size_t field_at(const uint8_t *map, size_t at)
+{
+    return map[at] + 256u * map[at + 1];
+}
+
+void put_field(uint8_t *map, size_t at, size_t number)
+{
+    map[at] = (uint8_t)(number % 256);
+    map[at + 1] = (uint8_t)(number / 256);
+}
 
 static int bit_of(const uint8_t *string, size_t i)
 {
@@ -213,20 +226,33 @@ static void draw(struct drawing *d, size_t m, const uint8_t *a, const uint8_t *b
     }
 }
 
-uint8_t unpack(const uint8_t *map, size_t length, struct drawing *d)
+int same_drawing(const struct drawing *d, const struct drawing *other)
 {
-    size_t m, n, i, ones = 0, bits_a, bits_b, bits_b_star;
+    return d->m == other->m && d->start == other->start && memcmp(d->marks, other->marks, d->m) == 0
+           && memcmp(d->turning, other->turning, 2 * d->m * sizeof *d->turning) == 0;
+}
+
+size_t strings_length(size_t m, size_t n)
+{
+    return bytes_of(2 * m) + bytes_of(2 * n - 2) + bytes_of(2 * (m + 1 - n));
+}
+
+/* "m over 2,048, or n not 1 to m+1" */
+static int numbers_fit(const uint8_t *map)
+{
+    size_t m = field_at(map, AT_M), n = field_at(map, AT_N);
+    return m <= MOST_BORDERS && n >= 1 && n <= m + 1;
+}
+
+/* 9 to 12 of a card whose strings begin at byte `start`. */
+static uint8_t read_strings(const uint8_t *map, size_t length, size_t start, struct drawing *d)
+{
+    size_t m = field_at(map, AT_M), n = field_at(map, AT_N), bits_a = 2 * m, bits_b = 2 * n - 2, bits_b_star = 2 * (m + 1 - n);
+    size_t i, ones = 0;
     const uint8_t *a, *b, *b_star;
 
-    if (length < 4) return 8;
-    m = map[0] + 256u * map[1];
-    n = map[2] + 256u * map[3];
-    if (m > MOST_BORDERS || n < 1 || n > m + 1) return 8;
-    bits_a = 2 * m;
-    bits_b = 2 * n - 2;
-    bits_b_star = 2 * (m + 1 - n);
-    if (length != 4 + bytes_of(bits_a) + bytes_of(bits_b) + bytes_of(bits_b_star)) return 9;
-    a = map + 4;
+    if (length != start + strings_length(m, n)) return 9;
+    a = map + start;
     b = a + bytes_of(bits_a);
     b_star = b + bytes_of(bits_b);
     if (!unused_is_zero(a, bits_a) || !unused_is_zero(b, bits_b) || !unused_is_zero(b_star, bits_b_star)) return 10;
@@ -235,4 +261,17 @@ uint8_t unpack(const uint8_t *map, size_t length, struct drawing *d)
     if (!balanced(b, bits_b) || !balanced(b_star, bits_b_star)) return 12;
     draw(d, m, a, b, b_star);
     return 0;
+}
+
+uint8_t unpack(const uint8_t *map, size_t length, struct drawing *d)
+{
+    if (length < HEADER || !numbers_fit(map)) return 8;
+    if (field_at(map, AT_AREAS) != field_at(map, AT_M) + 2 - field_at(map, AT_N)) return 20;
+    return read_strings(map, length, HEADER, d);
+}
+
+uint8_t unpack_before(const uint8_t *map, size_t length, struct drawing *d)
+{
+    if (length < AT_AREAS || !numbers_fit(map)) return 8;
+    return read_strings(map, length, AT_AREAS, d);
 }

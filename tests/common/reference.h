@@ -1,9 +1,10 @@
 /*
  * Document 01 once more, from the drawing's side: what is wrong with a drawing or with a card, the drawing that bytes unpack
  * to, and the drawing's book with its sessions; and of document 02 the crossing that request 2/14 fixes and the neighbours as
- * request 3/14 counts them. Written from the documents alone, and the codes of calls from include/pmap.h, so that the library can
- * be compared with it; slow and plain on purpose, and where there is a choice not in the library's way: marks are followed by
- * merging points, the crossing of 7 is looked for among all pairs, the sides of an area among all ends.
+ * request 3/14 counts them, and the count of areas that request 6/14 puts on a card. Written from the documents alone, and the codes of
+ * calls from include/pmap.h, so that the library can be compared with it; slow and plain on purpose, and where there is a choice not
+ * in the library's way: marks are followed by merging points, the crossing of 7 is looked for among all pairs, the sides of an area
+ * among all ends, and the count that a card gets is that of the drawing's area walks.
  */
 #ifndef REFERENCE_H
 #define REFERENCE_H
@@ -11,7 +12,15 @@
 #include <stddef.h>
 #include <stdint.h>
 
-enum { MOST_BORDERS = 2048, MOST_ENDS = 2 * MOST_BORDERS, LONGEST = 1029 };
+enum { MOST_BORDERS = 2048, MOST_ENDS = 2 * MOST_BORDERS };
+
+/* The header of a card, in bytes: "m, then n, each two bytes, low byte first"; request 6/14: "Two bytes, low first, follow n and
+   hold m-n+2." Before that request the strings began where the count is now. */
+enum { AT_M = 0, AT_N = 2, AT_AREAS = 4, HEADER = 6, LONGEST = HEADER + 1025 };
+
+/* A field of a header. */
+size_t field_at(const uint8_t *map, size_t at);
+void put_field(uint8_t *map, size_t at, size_t number);
 
 /* "The drawing": border e has the ends 2e and 2e+1; turning[h] follows end h counterclockwise about its point. */
 struct drawing {
@@ -85,8 +94,17 @@ struct crossing {
 };
 struct crossing first_crossing(const struct drawing *d);
 
-/* The first of 8 to 12 that applies to the bytes; 0 where none does, and then the drawing that they unpack to. */
+/* Whether two drawings are the same, entry by entry. */
+int same_drawing(const struct drawing *d, const struct drawing *other);
+
+/* How many bytes the three strings have, with m borders and n points. */
+size_t strings_length(size_t m, size_t n);
+
+/* The first of 8, 20 and 9 to 12 that applies to the bytes; 0 where none does, and then the drawing that they unpack to. */
 uint8_t unpack(const uint8_t *map, size_t length, struct drawing *d);
+
+/* The same in a box already sold, whose cards have no count of areas: the first of 8 to 12. */
+uint8_t unpack_before(const uint8_t *map, size_t length, struct drawing *d);
 
 /* The book of a drawing that drawing_refusal accepts. Gives 0 if its tour does not meet every end once, else 1. */
 int make_book(const struct drawing *d, struct book *b);

@@ -5,7 +5,9 @@
 #include "shim.h"
 
 #include <stdlib.h>
+#include <string.h>
 
+#include "damage.h"
 #include "pmap.h"
 #include "reference.h"
 
@@ -19,9 +21,34 @@ int planted_fault(void)
 static struct drawing drawing;
 static struct book book;
 
+/* What opening gives for the card with this count of areas. */
+static uint8_t with_count(const uint8_t *map, size_t map_len, size_t count)
+{
+    static uint8_t copy[MOST_BYTES];
+    memcpy(copy, map, map_len);
+    put_field(copy, AT_AREAS, count);
+    return unpack(copy, map_len, &drawing);
+}
+
+/* Opening with a mistake about the count of areas. */
+static uint8_t changed_count(const uint8_t *map, size_t map_len, uint8_t status)
+{
+    size_t right, count;
+    if (FAULT == 20 && status != 0 && unpack_before(map, map_len, &drawing) == 0) return 0; /* takes cards made before */
+    if (map_len < HEADER || map_len > MOST_BYTES) return status;
+    right = field_at(map, AT_M) + 2 - field_at(map, AT_N);
+    count = field_at(map, AT_AREAS);
+    if (FAULT == 15 && status == 20) return with_count(map, map_len, right);                               /* does not compare it */
+    if (FAULT == 16 && status == 20 && with_count(map, map_len, right) == 9) return 9;                     /* compares it after the length */
+    if (FAULT == 17 && status != 8) return with_count(map, map_len, count % 256 * 256 + count / 256);      /* reads it high byte first */
+    if (FAULT == 18 && status == 20 && count % 256 == right % 256) return with_count(map, map_len, right); /* compares its low byte */
+    if (FAULT == 19 && status == 8 && count != right) return 20;                                           /* compares it before 8 */
+    return status;
+}
+
 static uint8_t open_card(const uint8_t *map, size_t map_len)
 {
-    uint8_t status = unpack(map, map_len, &drawing);
+    uint8_t status = changed_count(map, map_len, unpack(map, map_len, &drawing));
     if (FAULT == 11 && map_len > 0) status |= ((const volatile uint8_t *)map)[map_len] & 0; /* reads past the end */
     if (FAULT == 1 && status == 12) status = 11; /* gives another number */
     if (status == 0) make_book(&drawing, &book);

@@ -12,6 +12,7 @@
 
 #include "cards.h"
 #include "compare.h"
+#include "counts.h"
 #include "damage.h"
 #include "examples.h"
 #include "factors.h"
@@ -23,6 +24,8 @@
 #include "tally.h"
 #include "tariffs.h"
 
+_Static_assert(PMAP_LONGEST == LONGEST, "pmap.h and the documents differ about the longest map");
+
 static int small;
 static struct drawing drawing, renumbered;
 
@@ -30,14 +33,6 @@ static struct drawing drawing, renumbered;
 static void worked_examples(void)
 {
     static const size_t listing[6][4] = {{1, 5, 1, 1}, {2, 4, 2, 1}, {3, 6, 3, 1}, {4, 2, 3, 2}, {5, 1, 2, 2}, {6, 3, 1, 2}};
-    static const struct {
-        uint8_t status;
-        size_t length;
-        uint8_t bytes[6];
-    } table[] = {
-        {8, 4, {0, 0, 0, 0}}, {9, 5, {0, 0, 1, 0, 5}}, {10, 6, {1, 0, 2, 0, 7, 2}},
-        {11, 6, {1, 0, 2, 0, 1, 2}}, {12, 6, {1, 0, 2, 0, 3, 1}},
-    };
     size_t i;
     for (i = 0; i < 6; i++) {
         compare_value("pmap_cross", pmap_cross, CARD(triangle), listing[i][0], 0, listing[i][1]);
@@ -58,7 +53,7 @@ static void worked_examples(void)
     compare_value("pmap_point", pmap_point, CARD(figure_1), 1, 0, 1);
     compare_value("pmap_area", pmap_area, CARD(figure_1), 23, 0, 1);
     compare_value("pmap_area", pmap_area, CARD(figure_1), 10, 0, 4);
-    for (i = 0; i < sizeof table / sizeof *table; i++) compare_refused(table[i].bytes, table[i].length, table[i].status);
+    for (i = 0; i < TABLE; i++) compare_refused(table[i].bytes, table[i].length, table[i].status);
     compare_value("pmap_cross", pmap_cross, CARD(triangle), 0, 13, 0);
     compare_value("pmap_degree", pmap_degree, CARD(triangle), 0, 14, 0);
     compare_value("pmap_sides", pmap_sides, CARD(triangle), 0, 15, 0);
@@ -240,11 +235,11 @@ static void random_bytes(size_t count)
         for (i = 0; i < sizeof bytes; i++) bytes[i] = (uint8_t)random_number();
         compare_bytes(bytes, length);
         random_card(&card, m, n, 4);
-        memcpy(bytes, card.bytes, 4);
+        memcpy(bytes, card.bytes, HEADER);
         compare_bytes(bytes, card.length);
-        if (card.length == 4) continue;
-        first = 32 + random_below(8 * (card.length - 4));
-        second = 32 + random_below(8 * (card.length - 4));
+        if (card.length == HEADER) continue;
+        first = 8 * HEADER + random_below(8 * (card.length - HEADER));
+        second = 8 * HEADER + random_below(8 * (card.length - HEADER));
         card.bytes[first / 8] ^= (uint8_t)(1u << first % 8);
         card.bytes[second / 8] ^= (uint8_t)(1u << second % 8);
         compare_bytes(card.bytes, card.length);
@@ -262,7 +257,7 @@ static void no_bytes(void)
 /* Every status came up, so no part above ran idle. */
 static void every_status(void)
 {
-    static const uint8_t statuses[] = {0, 2, 8, 9, 10, 11, 12, 13, 14, 15, 18, 19, 255};
+    static const uint8_t statuses[] = {0, 2, 8, 20, 9, 10, 11, 12, 13, 14, 15, 18, 19, 255};
     expect_seen(statuses, sizeof statuses);
     part_ends("every status was seen");
 }
@@ -276,6 +271,9 @@ int main(int argc, char **argv)
     worked_sessions();
     no_bytes();
     headers();
+    every_count(small);
+    counts_in_order();
+    cards_before(small);
     all_strings(small ? 2 : 4);
     all_drawings(small ? 2 : 3);
     random_small(small ? 60 : 12000);

@@ -200,7 +200,7 @@ static void compare_in_order(void)
     }
 }
 
-/* 8 to 12 before all of them, whatever the lists. */
+/* Opening's refusals before all of them, whatever the lists. */
 static void compare_closed(const uint8_t *bytes, size_t length, uint8_t status)
 {
     size_t lines;
@@ -218,14 +218,9 @@ static void compare_closed(const uint8_t *bytes, size_t length, uint8_t status)
 
 void factor_refusals(void)
 {
-    static const uint8_t header[] = {0, 0, 0, 0}, longer[] = {0, 0, 1, 0, 5}, unused[] = {1, 0, 2, 0, 7, 2},
-                         marks[] = {1, 0, 2, 0, 1, 2}, brackets[] = {1, 0, 2, 0, 3, 1};
+    size_t i;
     compare_in_order();
-    compare_closed(CARD(header), 8);
-    compare_closed(CARD(longer), 9);
-    compare_closed(CARD(unused), 10);
-    compare_closed(CARD(marks), 11);
-    compare_closed(CARD(brackets), 12);
+    for (i = 0; i < TABLE; i++) compare_closed(table[i].bytes, table[i].length, table[i].status);
     part_ends("refusals of factors, the first one first");
 }
 

@@ -11,7 +11,7 @@ void tariff_limits(void);
 /* Lists that are too short or too long. */
 void tariff_lengths(void);
 
-/* Refusals that apply at once: given is the first in the order 8 to 12, 15, 18, 19. */
+/* Refusals that apply at once: given is the first in the order 8, 20, 9 to 12, 15, 18, 19. */
 void factor_refusals(void);
 
 /* Lists whose entries that are not used were never written: valgrind sees if anything depends on them. */

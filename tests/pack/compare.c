@@ -127,12 +127,6 @@ static uint8_t unpack_status(const uint8_t *map, size_t length, size_t turning_l
     return status;
 }
 
-static int same_drawing(const struct drawing *d, const struct drawing *other)
-{
-    return d->m == other->m && d->start == other->start && memcmp(d->marks, other->marks, d->m) == 0
-           && memcmp(d->turning, other->turning, 2 * d->m * sizeof *d->turning) == 0;
-}
-
 /* "An accepted unpack writes the first 2m turning entries and m marks only." The lists hold what they must in the end. */
 static void lay(const struct drawing *d, uint16_t *turning, uint8_t *marks)
 {
@@ -209,7 +203,7 @@ void compare_back(const uint8_t *bytes, size_t length)
 
 void compare_opening(const uint8_t *bytes, size_t length)
 {
-    size_t m = length < 2 ? 0 : bytes[0] + 256u * bytes[1], less;
+    size_t m = length < AT_N ? 0 : field_at(bytes, AT_M), less;
     if (m > MOST_BORDERS) m = MOST_BORDERS;
     less = m > 0;
     compare_unpack(bytes, length, 2 * m, m, NULL);

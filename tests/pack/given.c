@@ -52,7 +52,7 @@ void worked_examples(void)
     uint8_t out[LONGEST], mark = 9;
 
     DECLINES(odd, one, 1);
-    gives(apart, 2, one, 1, 1028, 2, NULL, 0);
+    gives(apart, 2, one, 1, LONGEST - 1, 2, NULL, 0);
     DECLINES(beyond, one, 3);
     DECLINES(equal, one, 4);
     DECLINES(apart, zero, 5);
@@ -70,7 +70,7 @@ void worked_examples(void)
     compare_back(CARD(figure_1));
     expect(pmap_unpack(CARD(stub), list, 1, &mark, 1, &cell) == 16, "pmap_unpack", "takes a turning list of 1 for m = 1");
     expect(list[0] == OLD && list[1] == OLD && mark == 9 && cell == OLD, "pmap_unpack", "writes with 16");
-    expect(pmap_pack(NULL, 0, NULL, 0, 0, NULL, 0, out, LONGEST, &cell) == 0 && cell == 4, "pmap_pack", "null lists of no entry");
+    expect(pmap_pack(NULL, 0, NULL, 0, 0, NULL, 0, out, LONGEST, &cell) == 0 && cell == sizeof empty, "pmap_pack", "null lists of no entry");
     expect(pmap_pack(NULL, 0, NULL, 0, 0, NULL, 0, NULL, 0, &cell) == 2, "pmap_pack", "null lists and no output");
     expect(pmap_unpack(CARD(empty), NULL, 0, NULL, 0, &cell) == 0 && cell == 0, "pmap_unpack", "null lists of no entry");
     expect(pmap_unpack(NULL, 0, NULL, 0, NULL, 0, &cell) == 8 && cell == 0, "pmap_unpack", "null bytes of length 0");
@@ -124,7 +124,8 @@ static const size_t odd_starts[] = {65535, 65536, 4294967296u, SIZE_MAX};
 
 void no_borders(void)
 {
-    static const size_t starts[] = {0, 1, 2, 65536, 4294967296u, SIZE_MAX}, outs[] = {0, 3, 4, 5, 1027, 1028, 1029, 1030, 1100};
+    static const size_t starts[] = {0, 1, 2, 65536, 4294967296u, SIZE_MAX}, 
+                        outs[] = {0, HEADER - 1, HEADER, HEADER + 1, LONGEST - 2, LONGEST - 1, LONGEST, LONGEST + 1, LONGEST + 71};
     size_t i, j, work;
     for (i = 0; i < sizeof starts / sizeof *starts; i++)
         for (j = 0; j < sizeof outs / sizeof *outs; j++)
@@ -240,7 +241,7 @@ void rooms(void)
     size_t i, j, k;
     for (i = 0; i < sizeof sizes / sizeof *sizes - (size_t)(small ? 2 : 0); i++) {
         size_t m = sizes[i], works[] = {0, 1, 6 * m - 1, 6 * m, 6 * m + 1, 6 * m + 40};
-        size_t outs[] = {0, 4, 4 + m / 2, 1028, 1029, 1030, 1029 + 100};
+        size_t outs[] = {0, HEADER, HEADER + m / 2, LONGEST - 2, LONGEST - 1, LONGEST, LONGEST + 1, LONGEST + 100};
         grow(&drawing, m, 4);
         mark_tree(&drawing);
         for (j = 0; j < sizeof works / sizeof *works; j++)

@@ -167,9 +167,8 @@ void good_drawings(void)
 static void one_point_more(size_t length)
 {
     uint16_t m, n;
-    if (length == 0 || map[2] + 256u * map[3] != drawing.m + 1) return;
-    map[2] = (uint8_t)((drawing.m + 2) % 256);
-    map[3] = (uint8_t)((drawing.m + 2) / 256);
+    if (length == 0 || field_at(map, AT_N) != drawing.m + 1) return;
+    put_field(map, AT_N, drawing.m + 2);
     expect(pmap_open(map, length, &m, &n) == 8, "pmap_open", "takes n = m+2");
     compare_opening(map, length);
 }
@@ -205,6 +204,6 @@ void large_drawings(void)
 /* Every status came up, so no part above ran idle. */
 void every_status(void)
 {
-    static const uint8_t statuses[] = {0, 1, 2, 3, 4, 5, 6, 7, 8, 9, 10, 11, 12, 13, 16};
+    static const uint8_t statuses[] = {0, 1, 2, 3, 4, 5, 6, 7, 8, 20, 9, 10, 11, 12, 13, 16};
     expect_seen(statuses, sizeof statuses);
 }

@@ -35,11 +35,11 @@ static void change_lent(struct lent *lent)
 {
     static uint8_t marks[MOST_BORDERS];
     size_t e;
-    if (FAULT == 21) lent->out_len++;                                    /* takes an output of 1,028 */
+    if (FAULT == 21) lent->out_len++;                                    /* takes an output that is one short */
     if (FAULT == 22) lent->work_len++;                                   /* takes a working list that is one short */
     if (FAULT == 23) lent->start %= 65536;                               /* cuts the start to 16 bits */
     if (FAULT == 24 && lent->start < lent->turning_len) lent->start = 0; /* begins at end 0 whatever the start */
-    if (FAULT == 25 && lent->out_len == 1029) lent->out_len--;           /* wants more output than 1,029 bytes */
+    if (FAULT == 25 && lent->out_len == LONGEST) lent->out_len--;        /* wants more output than the longest map */
     if (FAULT != 34 || lent->marks_len > MOST_BORDERS) return;
     for (e = 0; e < lent->marks_len; e++) marks[e] = lent->marks[e] != 0;
     lent->marks = marks; /* takes every mark over 0 for 1 */
@@ -147,8 +147,11 @@ static void write_map(const struct lent *lent, uint8_t *out, uint16_t *length)
     if (FAULT == 64 && *length < lent->out_len) out[*length] = 0;                  /* one byte beyond the map */
     if (FAULT == 65) memcpy(out, triangle, sizeof triangle);                       /* the triangle's bytes for all */
     if (FAULT == 66) out[lent->out_len] = 0;                                       /* one byte beyond the output */
-    if (FAULT == 67) memset(out + *length, 0, LONGEST - *length);                  /* clears 1,029 bytes */
-    if (FAULT == 68) out[1] = 0;                                                   /* m in one byte */
+    if (FAULT == 67) memset(out + *length, 0, LONGEST - *length);                  /* clears the longest map's length */
+    if (FAULT == 68) out[AT_M + 1] = 0;                                            /* m in one byte */
+    if (FAULT == 69) put_field(out, AT_AREAS, book.n);                             /* n for the count of areas */
+    if (FAULT == 70) out[AT_AREAS] = map[AT_AREAS + 1], out[AT_AREAS + 1] = map[AT_AREAS]; /* the count high byte first */
+    if (FAULT == 75) memcpy(out + AT_AREAS, map + HEADER, *length -= HEADER - AT_AREAS);   /* a card without the count */
 }
 
 uint32_t pmap_pack(const uint16_t *turning, size_t turning_len, const uint8_t *marks, size_t marks_len, size_t start,
@@ -174,7 +177,10 @@ static uint8_t unpack_status(const uint8_t *map, size_t map_len, size_t turning_
     uint8_t status = unpack(map, map_len, &drawing);
     if (FAULT == 81 && map_len >= 2 && turning_len < 2 * map[0]) return 16;           /* tests 16 first */
     if (FAULT == 82 && status == 10) status = 11;                                     /* does not test unused bits */
-    if (FAULT == 83 && status == 8 && map_len >= 4 && map[2] == map[0] + 2) return 9; /* takes n = m+2 */
+    if (FAULT == 83 && status == 8 && map_len >= HEADER && field_at(map, AT_N) == field_at(map, AT_M) + 2) return 9; /* takes n = m+2 */
+    if (FAULT == 87 && status == 20) status = 0;                                      /* takes any count of areas */
+    if (FAULT == 88 && status == 20) return 9;                                        /* gives 9 for 20 */
+    if (FAULT == 89 && status == 20 && unpack_before(map, map_len, &drawing) == 0) status = 0; /* takes cards made before */
     if (status != 0) return status;
     if (FAULT == 84) turning_len--; /* wants more than 2m entries */
     if (FAULT == 85) turning_len++; /* takes one entry fewer */

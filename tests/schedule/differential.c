@@ -121,7 +121,7 @@ static void try_changed(unsigned long count)
         size_t k;
         try_any_card();
         if (random_below(4) == 0)
-            for (k = 4; k < card.length; k++) card.bytes[k] = (uint8_t)random_number();
+            for (k = HEADER; k < card.length; k++) card.bytes[k] = (uint8_t)random_number();
         else
             for (k = random_below(3) + 1; k > 0; k--) {
                 size_t bit = random_below(8 * card.length);
@@ -139,7 +139,7 @@ static void try_random_bytes(unsigned long count)
         size_t length = random_below(most[random_below(COUNT(most))] + 1);
         input.length = 0;
         while (input.length < length) {
-            uint8_t byte = (uint8_t)(input.length < 4 && random_below(4) != 0 ? random_below(9) : random_number());
+            uint8_t byte = (uint8_t)(input.length < HEADER && random_below(4) != 0 ? random_below(9) : random_number());
             add_bytes(&input, &byte, 1);
         }
         try_input(random_below(100) == 0);
@@ -166,13 +166,14 @@ static void try_longer(size_t length)
 static void try_long(size_t most)
 {
     static const struct { size_t m, n; } sizes[] = {{0, 1}, {3, 3}, {60, 2}, {2048, 1}, {2048, 2}, {2048, 2049}};
-    const size_t lengths[] = {1028, 1029, 1030, 1031, 2058, 4096, 65536, most};
+    const size_t lengths[] = {LONGEST - 1, LONGEST, LONGEST + 1, LONGEST + 2, 2 * LONGEST, 4096, 65536, most};
     size_t i, k, bad;
     words = "bytes after a card";
     for (i = 0; i < COUNT(sizes); i++)
-        for (bad = 0; bad < 2; bad++) {
+        for (bad = 0; bad < 3; bad++) {
             random_card(&card, sizes[i].m, sizes[i].n, 4);
-            if (bad) card.bytes[1] = 0x10; /* too many borders */
+            if (bad == 1) put_field(card.bytes, AT_M, 2049 + sizes[i].m); /* too many borders */
+            if (bad == 2) put_field(card.bytes, AT_AREAS, 0);             /* no area */
             try_longer(card.length + 1);
             try_longer(card.length + 2);
             for (k = 0; k < COUNT(lengths); k++)
@@ -183,7 +184,7 @@ static void try_long(size_t most)
 /* Whether each outcome was met often. */
 static int all_met(unsigned long least)
 {
-    static const uint8_t statuses[] = {0, 8, 9, 10, 11, 12};
+    static const uint8_t statuses[] = {0, 8, 20, 9, 10, 11, 12};
     size_t i;
     int met = 1;
     for (i = 0; i < COUNT(statuses); i++) {

@@ -20,6 +20,8 @@
  *   16  a longer input is cut to the map's length
  *   17  8 is given for 9
  *   18  a map without borders has no area
+ *   19  9 is given for 20
+ *   20  cards without the count of areas are taken
  */
 #include <stdlib.h>
 #include <string.h>
@@ -102,7 +104,9 @@ static uint8_t open_map(const struct bytes *input, struct drawing *d, int fault)
     if (fault == 15 && length > LONGEST) length = LONGEST;
     if (fault == 16 && length > LONGEST) length = LONGEST + 1;
     refusal = unpack(input->at, length, d);
-    while (fault == 16 && refusal == 9 && length > 4) refusal = unpack(input->at, --length, d);
+    while (fault == 16 && refusal == 9 && length > HEADER) refusal = unpack(input->at, --length, d);
+    if (fault == 20 && refusal != 0 && unpack_before(input->at, length, d) == 0) return 0;
+    if (fault == 19 && refusal == 20) return 9;
     return fault == 17 && refusal == 9 ? 8 : refusal;
 }
 

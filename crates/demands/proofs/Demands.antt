@@ -116,7 +116,7 @@ demand-2-pack D work out =
           let X : FirstCrossing D (y .0) = pack-crosses D work out (y .0) .0 (y .1) .2 in
           y .1 ∙ ap (refusedWith 7) (first-crossing D .first (y .0) .0 X .1);
       places = λ six a b X. alternate-places D six a b (X .alternate);
-      bare = λ k xs e d. pack-refusals D work out .refuses k xs .0 e .3 ∙ carries-none D k d;
+      bare = λ k xs e d. pack-refusals D work out .refuses k xs .0 e .1 ∙ carries-none D k d;
       long = λ seven. packed-length D seven;
       fits = λ seven.
           let f : Fits (sizeFor D) (wordOf D) = passes-fits D seven in

@@ -1,11 +1,12 @@
 -- No map is longer than the longest.
 --
 -- map-length-most  == the length that the header gives is at most the longest
--- long-refused     == bytes longer than the longest map don't open: 8 or 20 by their header, else 9
+-- too-long         == bytes longer than the longest map don't open
+-- long-refused     == they get 8 or 20 by their header, else 9
 -- open-cut         == and so opening gives their first bytes, one more than the longest map has, the number that it gives all of them
 -- Assumes nothing.
 use mathlib.Core.Path.{_≡_, sym, ap, ap₂, _∙_}
-use mathlib.Core.Logic.{inl, inr}
+use mathlib.Core.Logic.{_≢_, inl, inr}
 use mathlib.Core.Bool.{true, false, _&&_}
 use mathlib.Core.List.{List}
 use Prim.Native.Nat.{ℕ, _+_, _≤_, _<_}
@@ -17,13 +18,18 @@ use borrow.Author.Tests.{ne-eqb, le-leb}
 use Rattle.count.proofs.Logic.{lt-or-ge, true-or-false}
 use Rattle.bits.specs.Strings.{bytesFor}
 use Rattle.drawing.specs.Drawing.{mostBorders}
-use Rattle.format.specs.Bytes.{header, Size, areasOf, sizeIn, writtenAreas, le16At, startB, mapLength, longest}
+use Rattle.format.specs.Bytes.{atM, atN, atAreas, header, Size, areasOf, sizeIn, writtenAreas, le16At, startB, mapLength, longest}
 use Rattle.format.specs.Open.{unless, SizeFits, sizeFits, areasFit, lengthFits, openRefusal}
-use Rattle.format.proofs.Passes.{decides-size}
+use Rattle.format.proofs.Passes.{Passes, decides-size, opens-passes}
 
 pub map-length-most : (z : Size) → z .m ≤ mostBorders → 1 ≤ z .n → z .n ≤ z .m + 1 → mapLength z ≤ longest
 unfolding mapLength startB bytesFor
 map-length-most z a b c = omega arith
+
+pub too-long : (s : List ℕ) → longest < length s → openRefusal s ≢ 0
+too-long s h e =
+    let Q : Passes s = opens-passes s e in
+    omega (arith, Q .long, map-length-most (sizeIn s) (Q .m-most) (Q .n-least) (Q .n-most))
 
 -- what 8, 20 and 9 make of bytes that are longer than the longest map
 abbrev tooLong : List ℕ → ℕ
@@ -37,7 +43,7 @@ module _ (s : List ℕ) (h : longest < length s) where
       let l = map-length-most (sizeIn s) (f .m-most) (f .n-least) (f .n-most) in
       ne-eqb (length s) (mapLength (sizeIn s)) (omega arith)
 
-  pub long-refused : openRefusal s ≡ tooLong s
+  long-refused : openRefusal s ≡ tooLong s
   unfolding openRefusal
   long-refused =
       elim (true-or-false (sizeFits s)) [
@@ -52,16 +58,17 @@ module _ (s : List ℕ) (h : longest < length s) where
   cut-long : length cut ≡ longest + 1
   cut-long = length-take-le (longest + 1) s (omega arith)
 
-  cut-byte : (i : ℕ) → i < longest + 1 → getD cut i 0 ≡ getD s i 0
-  cut-byte i l = getD-take (longest + 1) s i 0 l
+  cut-two : (i : ℕ) → i < longest → le16At cut i ≡ le16At s i
+  unfolding le16At
+  cut-two i l = rw (getD-take (longest + 1) s i 0 (omega arith), getD-take (longest + 1) s (i + 1) 0 (omega arith))
 
   cut-header : sizeIn cut ≡ sizeIn s
-  unfolding sizeIn le16At
-  cut-header = rw (cut-byte 0 (omega arith), cut-byte 1 (omega arith), cut-byte 2 (omega arith), cut-byte 3 (omega arith))
+  unfolding sizeIn
+  cut-header = rw (cut-two atM (omega arith), cut-two atN (omega arith))
 
   cut-written : writtenAreas cut ≡ writtenAreas s
-  unfolding writtenAreas le16At
-  cut-written = rw (cut-byte 4 (omega arith), cut-byte 5 (omega arith))
+  unfolding writtenAreas
+  cut-written = cut-two atAreas (omega arith)
 
   cut-areas : areasFit cut ≡ areasFit s
   unfolding areasFit

@@ -30,11 +30,11 @@ use Rattle.drawing.specs.Drawing.{Kind}
 use Rattle.drawing.specs.Session.{Answer, answer, refused}
 use Rattle.drawing.specs.Book.{noSuch}
 use Rattle.format.specs.Bytes.{sizeIn, bitsA, wordIn, longest}
-use Rattle.format.specs.Open.{unless, sizeFits, openRefusal, afterRefusal, opened}
+use Rattle.format.specs.Open.{openRefusal, afterRefusal, opened}
 use Rattle.format.specs.Calls.{cellsIn, isNumber, firstIn, placesIn, firstOf, sizeOf}
 use Rattle.format.proofs.Passes.{opens-passes}
 use Rattle.format.proofs.Openings.{cells-numbers}
-use Rattle.format.proofs.Longest.{long-refused, open-cut}
+use Rattle.format.proofs.Longest.{too-long, open-cut}
 use Rattle.text.specs.Decimal.{space, lineFeed, decimal, aligned}
 use Rattle.text.specs.Listing.{refusedLine, shown}
 use Rattle.text.specs.Schedule.{column, gap, Row, rowOf, rowsOf, rowCells, rowLine, sumOf, totalLine, schedule, scheduleOf}
@@ -194,17 +194,13 @@ unfolding scheduleOf opened
 schedule-refused s n = shown-line schedule s (openRefusal s) n
 
 -- ---- inputs longer than the longest map
-long-refusal : (t : Bool) → unless t 8 9 ≢ 0
-long-refusal true = omega arith
-long-refusal false = omega arith
-
 -- the program reads one byte more than the longest map has, and no further
 pub schedule-cut : (s : List ℕ) → scheduleOf (take (longest + 1) s) ≡ scheduleOf s
 schedule-cut s =
     elim (lt-or-ge longest (length s)) [
       | inl l ↦
           let cut : List ℕ = take (longest + 1) s in
-          let n : openRefusal s ≢ 0 = λ e. long-refusal (sizeFits s) (sym (long-refused s l) ∙ e) in
+          let n : openRefusal s ≢ 0 = too-long s l in
           schedule-refused cut (λ e. n (sym (open-cut s) ∙ e)) ∙ ap refusedLine (open-cut s) ∙ sym (schedule-refused s n)
       | inr g ↦ ap scheduleOf (take-all (longest + 1) s (omega arith))
     ]

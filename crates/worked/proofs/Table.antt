@@ -87,11 +87,40 @@ map-rows =
       row-16 = refl;
     }
 
--- cards of before 02, 6/14, in a program of today, and a card of today in a box already sold
+-- a box already sold: document 01's examples of 8 to 12 and its maps, in the bytes of document 01
+pub record SoldBox : Type 0 where
+  pub row-8 : refusalBefore (0x00 ∷ 0x00 ∷ 0x00 ∷ 0x00 ∷ []) ≡ 8
+  pub row-8-short : refusalBefore (0x00 ∷ 0x00 ∷ 0x01 ∷ []) ≡ 8
+  pub row-9 : refusalBefore (0x00 ∷ 0x00 ∷ 0x01 ∷ 0x00 ∷ 0x05 ∷ []) ≡ 9
+  pub row-10 : refusalBefore (0x01 ∷ 0x00 ∷ 0x02 ∷ 0x00 ∷ 0x07 ∷ 0x02 ∷ []) ≡ 10
+  pub row-11 : refusalBefore (0x01 ∷ 0x00 ∷ 0x02 ∷ 0x00 ∷ 0x01 ∷ 0x02 ∷ []) ≡ 11
+  pub row-12 : refusalBefore (0x01 ∷ 0x00 ∷ 0x02 ∷ 0x00 ∷ 0x03 ∷ 0x01 ∷ []) ≡ 12
+  pub a-opens : refusalBefore (0x00 ∷ 0x00 ∷ 0x01 ∷ 0x00 ∷ []) ≡ 0
+  pub b-opens : refusalBefore (0x01 ∷ 0x00 ∷ 0x02 ∷ 0x00 ∷ 0x03 ∷ 0x02 ∷ []) ≡ 0
+  pub c-opens : refusalBefore (0x01 ∷ 0x00 ∷ 0x01 ∷ 0x00 ∷ 0x00 ∷ 0x02 ∷ []) ≡ 0
+  pub d-opens : refusalBefore (0x03 ∷ 0x00 ∷ 0x03 ∷ 0x00 ∷ 0x1B ∷ 0x0C ∷ 0x02 ∷ []) ≡ 0
+  pub figure-opens : refusalBefore (0x0E ∷ 0x00 ∷ 0x08 ∷ 0x00 ∷ 0xB6 ∷ 0x4E ∷ 0x8B ∷ 0x02 ∷ 0x34 ∷ 0x33 ∷ 0x92 ∷ 0x2B ∷ []) ≡ 0
+
+pub sold-box : SoldBox
+unfolding refusalBefore
+sold-box =
+    record {
+      row-8 = refl;
+      row-8-short = refl;
+      row-9 = refl;
+      row-10 = refl;
+      row-11 = refl;
+      row-12 = refl;
+      a-opens = refl;
+      b-opens = refl;
+      c-opens = refl;
+      d-opens = refl;
+      figure-opens = refl;
+    }
+
+-- cards of before 02, 6/14, in a program of today, and cards of today in a box already sold
 pub record BothForms : Type 0 where
-  pub then-triangle : refusalBefore (0x03 ∷ 0x00 ∷ 0x03 ∷ 0x00 ∷ 0x1B ∷ 0x0C ∷ 0x02 ∷ []) ≡ 0
   pub now-triangle : openOf (0x03 ∷ 0x00 ∷ 0x03 ∷ 0x00 ∷ 0x1B ∷ 0x0C ∷ 0x02 ∷ []) ≡ refused 20
-  pub then-empty : refusalBefore (0x00 ∷ 0x00 ∷ 0x01 ∷ 0x00 ∷ []) ≡ 0
   pub now-empty : openOf (0x00 ∷ 0x00 ∷ 0x01 ∷ 0x00 ∷ []) ≡ refused 8
   -- A begins with 05 00, and there are five areas
   pub then-five : refusalBefore (0x05 ∷ 0x00 ∷ 0x02 ∷ 0x00 ∷ 0x05 ∷ 0x00 ∷ 0x02 ∷ 0xAA ∷ []) ≡ 0
@@ -103,9 +132,7 @@ pub both-forms : BothForms
 unfolding refusalBefore openOf
 both-forms =
     record {
-      then-triangle = refl;
       now-triangle = refl;
-      then-empty = refl;
       now-empty = refl;
       then-five = refl;
       now-five = refl;

@@ -50,9 +50,10 @@ fn write_header(out: &mut [u8], m: usize, n: usize)
     requires { ⌜ (header ≤ length (now out)) × (m ≤ mostBorders) × (n ≤ m + 1) ⌝ }
     ensures { λ _. ⌜ now (out .exit) ≡ laid (headerOf (record { m = m; n = n })) (now (out .entry)) ⌝ }
 {
+    let areas = m + 2 - n;
     put_two(out, AT_M, m);
     put_two(out, AT_N, n);
-    put_two(out, AT_AREAS, m + 2 - n);
+    put_two(out, AT_AREAS, areas);
 }
 
 // x in the two bytes at i, low byte first.

@@ -4,17 +4,17 @@ use borrow.Author.Needs.{needs}
 use Rattle.writing.proofs.write.write_header.Statement.{statement}
 use Rattle.writing.proofs.write.write_header.Tie as tie
 
+add-areas : tie.Need-add-areas
+add-areas c = search needs
+
+sub-areas : tie.Need-sub-areas
+sub-areas c = search needs
+
 put-two-requires : tie.Need-put-two-requires
 put-two-requires c κs = search needs
 
 put-two-requires-2 : tie.Need-put-two-requires-2
 put-two-requires-2 c κs = search needs
-
-add-put-two : tie.Need-add-put-two
-add-put-two c = search needs
-
-sub-put-two : tie.Need-sub-put-two
-sub-put-two c = search needs
 
 put-two-requires-3 : tie.Need-put-two-requires-3
 put-two-requires-3 c κs = search needs
@@ -29,10 +29,10 @@ pub write-header-spec : {M : Type 1} → statement M
 write-header-spec =
     tie.close
     (tie.spec
+    add-areas
+    sub-areas
     put-two-requires
     put-two-requires-2
-    add-put-two
-    sub-put-two
     put-two-requires-3
     same-length
     returns)
