@@ -153,10 +153,10 @@ pub record HasNumber (D : Drawing) (c : Kind) : Type 0 where
   pub alone : borders D ≡ 0 → (k : ℕ) → (hasNumber D c k ≡ true) ↔ (k ≡ 1)
 
 -- Demand 3, whole. 01: "Demand 3 is one statement about the whole list"; it "covers counts and searches". The map s is a
--- byte string that opens, with the drawing's m and n; the count written in its header is the number of the drawing's area walks
--- (02, 6/14: "Card makers want to read the number of areas without arithmetic"). With the answers of document 01 go the factors of document 02, 4/14. Beside
--- them stands what document 01 says of the numbers and of the zeros among them, and the printed schedule of document 02, 1/14: it is
--- made of the book's numbers.
+-- byte string that opens, with the drawing's m and n; the count in its header is the number of the drawing's area walks
+-- (02, 6/14: "Card makers want to read the number of areas without arithmetic"). With the answers of document 01 go the
+-- factors of document 02, 4/14. Beside them stands what document 01 says of the numbers and of the zeros among them, and the
+-- printed schedule of document 02, 1/14: it is made of the book's numbers.
 pub record Agrees (D : Drawing) (s : List ℕ) : Type 0 where
   pub opens : Opens s
   pub size : openOf s ≡ answer (sizeFor D)

@@ -13,8 +13,8 @@
 // declines with the number of the first check that fails.
 //
 // The source is document 01, "Moves", for the answers, with document 02, 3/14, for the neighbours, and
-// 01's table, rows 8 to 15, and document 02, 6/14, for the checks. The definitions that the contracts cite are those of the
-// crate `format`. The types, their meaning and the checks are those of `opening`.
+// 01's table, rows 8 to 15, with document 02, 6/14, for the checks. The definitions that the contracts
+// cite are those of the crate `format`. The types, their meaning and the checks are those of `opening`.
 mod moves;
 mod numbers;
 mod search;

@@ -11,9 +11,9 @@
 // mates (the crate `surveying`), the ends, and the drawing from both, in lists on the function's own
 // stack.
 //
-// The source is document 01, "Tour and packed map", and its table, rows 8 to 12 and 16, and document 02, 6/14. The drawing of
-// a word is defined in the crate `format`; specs/Answers.antt says what an answer means, and the crate
-// `drawing`, specs/Laid.antt, what the lists hold after it.
+// The source is document 01, "Tour and packed map", and its table, rows 8 to 12 and 16, with document 02,
+// 6/14. The drawing of a word is defined in the crate `format`; specs/Answers.antt says what an answer
+// means, and the crate `drawing`, specs/Laid.antt, what the lists hold after it.
 mod answers;
 mod ends;
 mod lists;

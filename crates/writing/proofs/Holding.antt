@@ -37,6 +37,7 @@ use Rattle.touring.proofs.Outside.{outside-none, outside-set}
 -- six bytes, one pair after another
 six-first : (z : Size) (s : List ℕ) → header ≤ length s
     → withTwo (withTwo (withTwo s atM (z .m)) atN (z .n)) atAreas (areasOf z) ≡ laid (headerOf z) s
+unfolding withTwo
 six-first z [] l = absurd (omega arith)
 six-first z (a ∷ []) l = absurd (omega arith)
 six-first z (a ∷ b ∷ []) l = absurd (omega arith)

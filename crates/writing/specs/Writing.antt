@@ -71,5 +71,5 @@ pub record Grown (ms w : List ℕ) (b c p : ℕ) (old new : List ℕ) : Type 0 w
   pub strung : Strung ms w b c p p new
   pub outside : Outside header (c + bytesFor (length (stringB square (wordAt ms w)))) old new
 
-abbrev pub withTwo : List ℕ → ℕ → ℕ → List ℕ
+unfoldable pub withTwo : List ℕ → ℕ → ℕ → List ℕ
 withTwo s i x = set (set s i (x % 256)) (i + 1) (x / 256 % 256)

@@ -23,7 +23,10 @@ same-length : tie.Need-same-length
 same-length c = search needs
 
 returns : tie.Need-returns
-returns c = search headed-is
+returns c =
+    let b = c .before .before .before .before .before .before in
+    let a = b .before .before .before .before in
+    headed-is _ _ _ _ _ _ (a .before .before .before .pre .0) (a .put-two .ensures) (b .put-two2 .ensures) (c .before .before .put-two3 .ensures)
 
 pub write-header-spec : {M : Type 1} → statement M
 write-header-spec =
