@@ -26,6 +26,7 @@ use Rattle.opening.specs.declared.answers.Area.{Area}
 use Rattle.opening.specs.declared.answers.Cell.{Cell}
 use Rattle.opening.specs.Cells.{kindOf, numberOfCell}
 use Rattle.opening.specs.Checks.{orNext, afterOpening, placeRefusal, cellRefusal}
+use Rattle.opening.proofs.Rows.{or-next-some}
 
 unfoldable pub inRange : ℕ → ℕ → Bool
 inRange i n = ltb 0 i && leb i n
@@ -41,10 +42,6 @@ out-of-range i n f = not-both (ltb 0 i) (leb i n) (λ h k. f (ltb-true 0 i h) (l
 pub range-has : (i n : ℕ) → inRange i n ≡ true → (1 ≤ i) × (i ≤ n)
 unfolding inRange
 range-has i n h = (ltb-true 0 i (both-left (ltb 0 i) (leb i n) h), leb-true i n (both-right (ltb 0 i) (leb i n) h))
-
-or-next-some : (o k : ℕ) → (o ≡ 0 → ⊥) → o ≡ orNext o k
-or-next-some zero k m = absurd (m refl)
-or-next-some (suc o) k m = refl
 
 module _ (s : List ℕ) where
   -- ---- opening's number, and the call's own after it

@@ -1,5 +1,7 @@
--- The checks of a call's own number, after opening's (document 01, the table).
+-- Checks one after another: opening's of the header and the length, and the check of a call's own number after all of opening's
+-- (document 01, the table; document 02, 6/14).
 --
+-- headerRefusal s    == the first of 8, 20 and 9 that applies; 0 where none does
 -- orNext o k         == the number o, or k where o is 0
 -- afterOpening s t k == opening's refusal, else k unless the test holds; 0 where none applies
 -- placeRefusal s i   == opening's refusal, else 13
@@ -12,8 +14,12 @@ use lib.Dec.{ltb, leb}
 use Rattle.drawing.specs.Drawing.{Kind}
 use Rattle.drawing.specs.Book.{noSuch}
 use Rattle.format.specs.Bytes.{sizeIn, bitsA}
-use Rattle.format.specs.Open.{unless, openRefusal}
+use Rattle.format.specs.Open.{unless, sizeFits, areasFit, lengthFits, openRefusal}
 use Rattle.format.specs.Calls.{isNumber}
+
+unfoldable pub headerRefusal : List ℕ → ℕ
+unfolding sizeFits areasFit lengthFits
+headerRefusal s = unless (sizeFits s) 8 (unless (areasFit s) 20 (unless (lengthFits s) 9 0))
 
 abbrev pub orNext : ℕ → ℕ → ℕ
 orNext zero k = k

@@ -19,6 +19,7 @@ ghost use Rattle.drawing.specs.Session.{answer};
 ghost use Rattle.format.specs.Bytes.{Size, sizeIn, bitsA, bitsB, partA, partB};
 ghost use Rattle.format.specs.Open.{sizeFits, areasFit, lengthFits, unusedFits, onesFit, bracketsFit, openRefusal, Opens, openOf};
 ghost use Rattle.opening.specs.Answers.{openedMeans};
+ghost use Rattle.opening.specs.Checks.{headerRefusal};
 
 // "Opening gives m and n", or the number of the check that declines. What it accepts is a byte string that opens.
 pub fn open(map: &[u8]) -> Opened
@@ -38,14 +39,9 @@ pub fn refusal(map: &[u8]) -> u8
     ensures { λ r. ⌜ r ≡ openRefusal (now (map .entry)) ⌝ }
     ensures { λ _. ⌜ (openRefusal (now (map .entry)) ≡ 0 → Opens (now (map .entry))) ⌝ }
 {
-    if !size_fits(map) {
-        return 8;
-    }
-    if !areas_fit(map) {
-        return 20;
-    }
-    if !length_fits(map) {
-        return 9;
+    let number = header_refusal(map);
+    if number != 0 {
+        return number;
     }
     if !unused_fits(map) {
         return 10;
@@ -55,6 +51,22 @@ pub fn refusal(map: &[u8]) -> u8
     }
     if !brackets_fit(map) {
         return 12;
+    }
+    0
+}
+
+// What the header and the length say by themselves: 8, 20 or 9, the first that declines; 0 where none does.
+fn header_refusal(map: &[u8]) -> u8
+    ensures { λ r. ⌜ r ≡ headerRefusal (now (map .entry)) ⌝ }
+{
+    if !size_fits(map) {
+        return 8;
+    }
+    if !areas_fit(map) {
+        return 20;
+    }
+    if !length_fits(map) {
+        return 9;
     }
     0
 }

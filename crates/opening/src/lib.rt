@@ -14,8 +14,9 @@
 // function asks anything of its caller.
 //
 // The source is document 01: "Tour and packed map" for the bytes, "Moves" for the calls, the table's rows
-// 8 to 15 and document 02, 6/14, for the checks. The definitions that the contracts cite are those of the crate `format`;
-// specs/Answers.antt says what an answer means, specs/Checks.antt what the check of a number answers.
+// 8 to 15 and document 02, 6/14, for the checks. The definitions that the contracts cite are those of the
+// crate `format`; specs/Answers.antt says what an answer means, specs/Checks.antt what checks answer that
+// come one after another.
 mod answers;
 mod checks;
 mod numbers;
