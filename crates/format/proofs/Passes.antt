@@ -1,6 +1,6 @@
 -- Opening's checks: the tests decide their propositions, and opening gives the number of the first that fails.
 --
--- decides-size   == the test of check 8 decides its proposition
+-- decides-header, decides-size == the test of check 8 decides its proposition, of a header of any length and of the header
 -- Passes s       == what the six checks say of the bytes s, in one record
 -- openTests s    == the six tests, in the order of their checks
 -- refusal-chain, open-chain == opening's refusal is that of a chain of these tests, and they decide the checks
@@ -24,7 +24,7 @@ use Rattle.bits.proofs.Laws.{unused-zero-from, unused-zero-has}
 use Rattle.drawing.specs.Drawing.{mostBorders}
 use Rattle.format.specs.Refusals.{InOrder, bare}
 use Rattle.format.specs.Bytes.{header, areasOf, sizeIn, writtenAreas, bitsA, bitsB, mapLength, partA, partB}
-use Rattle.format.specs.Open.{SizeFits, sizeFits, AreasFit, areasFit, LengthFits, lengthFits, UnusedZero, UnusedFits, unusedFits, OnesFit, onesFit}
+use Rattle.format.specs.Open.{HeaderFits, headerFits, SizeFits, sizeFits, AreasFit, areasFit, LengthFits, lengthFits, UnusedZero, UnusedFits, unusedFits, OnesFit, onesFit}
 use Rattle.format.specs.Open.{BracketsFit, bracketsFit, openChecks, OpenCheck, openRefusal, opened, openOf}
 use Rattle.format.proofs.Chain.{chain, Chain, each-hold, chain-zero, chain-in-order}
 
@@ -54,14 +54,17 @@ brackets-decides s K =
     record { sound = d .0; complete = d .1 }
 
 module _ (s : List ℕ) where
-  pub decides-size : Decides (sizeFits s) (SizeFits s)
-  unfolding sizeFits
-  decides-size =
+  pub decides-header : (h : ℕ) → Decides (headerFits h s) (HeaderFits h s)
+  decides-header h =
       decides-as (λ t. record { header-fits = t .0 .0 .0; m-most = t .0 .0 .1; n-least = t .0 .1; n-most = t .1 })
       (λ r. (((r .header-fits, r .m-most), r .n-least), r .n-most))
       (decides-both
-      (decides-both (decides-both (decides-le header (length s)) (decides-le (sizeIn s .m) mostBorders)) (decides-le 1 (sizeIn s .n)))
+      (decides-both (decides-both (decides-le h (length s)) (decides-le (sizeIn s .m) mostBorders)) (decides-le 1 (sizeIn s .n)))
       (decides-le (sizeIn s .n) (sizeIn s .m + 1)))
+
+  pub decides-size : Decides (sizeFits s) (SizeFits s)
+  unfolding sizeFits
+  decides-size = decides-header header
 
   decides-areas : Decides (areasFit s) (AreasFit s)
   unfolding areasFit

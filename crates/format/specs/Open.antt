@@ -2,7 +2,8 @@
 -- proposition that it decides.
 --
 -- unless t k rest  == the number k unless the test holds, then the rest
--- SizeFits, sizeFits       == passes 8: the header is there, m is at most 2,048 and n is 1 to m + 1
+-- HeaderFits h, headerFits h == a header of h bytes is there, m is at most 2,048 and n is 1 to m + 1
+-- SizeFits, sizeFits       == passes 8: that of the header
 -- AreasFit, areasFit       == passes 20: the header's count of areas is m - n + 2
 -- LengthFits, lengthFits   == passes 9: the length is the header's
 -- UnusedFits, unusedFits   == passes 10: no unused bit is 1
@@ -38,16 +39,21 @@ unless true k rest = rest
 unless false k rest = k
 
 -- 8: "under 4 bytes, m over 2,048, or n not 1 to m+1"; 02, 6/14: "refusal 8 wants 6 bytes"
-pub record SizeFits (s : List ℕ) : Type 0 where
-  pub header-fits : header ≤ length s
+pub record HeaderFits (h : ℕ) (s : List ℕ) : Type 0 where
+  pub header-fits : h ≤ length s
   pub m-most : sizeIn s .m ≤ mostBorders
   pub n-least : 1 ≤ sizeIn s .n
   pub n-most : sizeIn s .n ≤ sizeIn s .m + 1
 
+abbrev pub headerFits : ℕ → List ℕ → Bool
+headerFits h s = leb h (length s) && leb (sizeIn s .m) mostBorders && leb 1 (sizeIn s .n) && leb (sizeIn s .n) (sizeIn s .m + 1)
+
+abbrev pub SizeFits : List ℕ → Type 0
+SizeFits s = HeaderFits header s
+
 unfoldable pub sizeFits : List ℕ → Bool
 unfolding sizeIn
-sizeFits s =
-    leb header (length s) && leb (sizeIn s .m) mostBorders && leb 1 (sizeIn s .n) && leb (sizeIn s .n) (sizeIn s .m + 1)
+sizeFits s = headerFits header s
 
 -- 20: "when the written count isn't m-n+2, between 8 and 9"
 pub record AreasFit (s : List ℕ) : Type 0 where

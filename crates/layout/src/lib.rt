@@ -15,8 +15,8 @@
 // Conventions. Round brackets are those of B, square ones those of B*. A header byte past the end is 0,
 // and a string has the bytes that are there. No function asks anything of its caller.
 //
-// The source is document 01, "Tour and packed map", and document 02, 6/14. The definitions that the contracts cite are those of
-// the crate `format`.
+// The source is document 01, "Tour and packed map", and document 02, 6/14. The definitions that the
+// contracts cite are those of the crate `format`.
 mod header;
 mod strings;
 
