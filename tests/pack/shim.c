@@ -6,6 +6,7 @@
 
 #include <string.h>
 
+#include "damage.h"
 #include "examples.h"
 #include "pmap.h"
 #include "reference.h"
@@ -141,17 +142,17 @@ static void write_map(const struct lent *lent, uint8_t *out, uint16_t *length)
     size_t i;
     make_book(&drawing, &book);
     *length = (uint16_t)pack(&book, map);
-    if (FAULT == 61) ++*length;                                                    /* one too long */
-    if (FAULT == 62) return;                                                       /* writes nothing */
-    for (i = 0; i < *length; i++) out[i] = FAULT == 63 ? out[i] | map[i] : map[i]; /* what the output held shows through */
-    if (FAULT == 64 && *length < lent->out_len) out[*length] = 0;                  /* one byte beyond the map */
-    if (FAULT == 65) memcpy(out, triangle, sizeof triangle);                       /* the triangle's bytes for all */
-    if (FAULT == 66) out[lent->out_len] = 0;                                       /* one byte beyond the output */
-    if (FAULT == 67) memset(out + *length, 0, LONGEST - *length);                  /* clears the longest map's length */
-    if (FAULT == 68) out[AT_M + 1] = 0;                                            /* m in one byte */
-    if (FAULT == 69) put_field(out, AT_AREAS, book.n);                             /* n for the count of areas */
+    if (FAULT == 61) ++*length;                                                            /* one too long */
+    if (FAULT == 62) return;                                                               /* writes nothing */
+    for (i = 0; i < *length; i++) out[i] = FAULT == 63 ? out[i] | map[i] : map[i];         /* what the output held shows through */
+    if (FAULT == 64 && *length < lent->out_len) out[*length] = 0;                          /* one byte beyond the map */
+    if (FAULT == 65) memcpy(out, triangle, sizeof triangle);                               /* the triangle's bytes for all */
+    if (FAULT == 66) out[lent->out_len] = 0;                                               /* one byte beyond the output */
+    if (FAULT == 67) memset(out + *length, 0, LONGEST - *length);                          /* clears the longest map's length */
+    if (FAULT == 68) out[AT_M + 1] = 0;                                                    /* m in one byte */
+    if (FAULT == 69) put_field(out, AT_AREAS, book.n);                                     /* n for the count of areas */
     if (FAULT == 70) out[AT_AREAS] = map[AT_AREAS + 1], out[AT_AREAS + 1] = map[AT_AREAS]; /* the count high byte first */
-    if (FAULT == 75) memcpy(out + AT_AREAS, map + HEADER, *length -= HEADER - AT_AREAS);   /* a card without the count */
+    if (FAULT == 75) *length = (uint16_t)without_count(map, *length, out);                 /* a card without the count */
 }
 
 uint32_t pmap_pack(const uint16_t *turning, size_t turning_len, const uint8_t *marks, size_t marks_len, size_t start,
@@ -175,12 +176,12 @@ uint32_t pmap_pack(const uint16_t *turning, size_t turning_len, const uint8_t *m
 static uint8_t unpack_status(const uint8_t *map, size_t map_len, size_t turning_len, size_t marks_len)
 {
     uint8_t status = unpack(map, map_len, &drawing);
-    if (FAULT == 81 && map_len >= 2 && turning_len < 2 * map[0]) return 16;           /* tests 16 first */
-    if (FAULT == 82 && status == 10) status = 11;                                     /* does not test unused bits */
+    if (FAULT == 81 && map_len >= 2 && turning_len < 2 * map[0]) return 16;                                          /* tests 16 first */
+    if (FAULT == 82 && status == 10) status = 11;                                                                    /* does not test unused bits */
     if (FAULT == 83 && status == 8 && map_len >= HEADER && field_at(map, AT_N) == field_at(map, AT_M) + 2) return 9; /* takes n = m+2 */
-    if (FAULT == 87 && status == 20) status = 0;                                      /* takes any count of areas */
-    if (FAULT == 88 && status == 20) return 9;                                        /* gives 9 for 20 */
-    if (FAULT == 89 && status == 20 && unpack_before(map, map_len, &drawing) == 0) status = 0; /* takes cards made before */
+    if (FAULT == 87 && status == 20) status = 0;                                                                     /* takes any count of areas */
+    if (FAULT == 88 && status == 20) return 9;                                                                       /* gives 9 for 20 */
+    if (FAULT == 89 && status == 20 && unpack_before(map, map_len, &drawing) == 0) status = 0;                       /* takes cards made before */
     if (status != 0) return status;
     if (FAULT == 84) turning_len--; /* wants more than 2m entries */
     if (FAULT == 85) turning_len++; /* takes one entry fewer */
