@@ -235,7 +235,7 @@ void show_neighbours(size_t m)
     }
 }
 
-// All that is proved, each as a task on maps.
+// All that is proved, each as a task on maps; finding marks has a table of its own.
 std::vector<grown> all_grown()
 {
     std::vector<grown> list;
@@ -261,17 +261,18 @@ int main()
     compared.push_back(&succinct_calls);
 #endif
     for (size_t m : { 16, 128, 1024, 2048 })
-        for (int k = 0; k < ALL_KINDS; k++) {
+        for (int k = 0; k < WITH_RING; k++) {
             bytes map = make_map(kind(k), m);
-            if (!calls_agree(map) || !sessions_agree(map) || !unpacking_agrees(map) || !schedules_agree(map) || !listings_agree(map) || !factors_agree(map))
+            if (!calls_agree(map) || !sessions_agree(map) || !marks_agree(map) || !unpacking_agrees(map) || !schedules_agree(map) || !listings_agree(map) || !factors_agree(map))
                 return 1;
         }
-    std::printf("all agree on every answer: %d kinds of maps, 16 to 2,048 borders, %d calls, 300 questions each; sessions of 300 calls; unpacking; schedules; listings; factors; refusals of each\n", ALL_KINDS, NUMBER_CALLS + 2);
+    std::printf("all agree on every answer: %d kinds of maps, 16 to 2,048 borders, %d calls, 300 questions each; sessions of 300 calls; finding marks; unpacking; schedules; listings; factors; refusals of each\n", WITH_RING, NUMBER_CALLS + 2);
     for (size_t m : { 16, 128, 2048 })
         compare_all(m);
     show_neighbours(2048);
     show_sessions(2048, 1000);
     show_short_sessions();
+    show_marks(2048);
     show_packing(2048);
     show_unpacking(2048);
     show_schedules(2048);
@@ -280,5 +281,6 @@ int main()
     show_program(2048);
     show_factors(2048);
     show_growth(all_grown());
+    show_growth_by_kind({ "finding marks", marks_task });
     return 0;
 }

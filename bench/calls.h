@@ -14,6 +14,7 @@ typedef uint8_t number_call(const uint8_t *map, size_t length, size_t number, ui
 typedef uint8_t joining_call(const uint8_t *map, size_t length, size_t u, size_t v, uint16_t *out);
 typedef uint8_t session_call(const uint8_t *map, size_t length, size_t first, const uint8_t *calls, size_t calls_length, uint8_t *statuses, size_t statuses_length,
                              uint16_t *answers, size_t answers_length, size_t *place);
+typedef uint8_t marks_call(const uint16_t *turning, size_t turning_length, uint8_t *marks, size_t marks_length, uint16_t *work, size_t work_length);
 typedef uint8_t unpack_call(const uint8_t *map, size_t length, uint16_t *turning, size_t turning_length, uint8_t *marks, size_t marks_length, uint16_t *m);
 typedef uint8_t factor_call(const uint8_t *map, size_t length, size_t area, const uint8_t *kinds, size_t kinds_length, const double *values, size_t values_length,
                             double *out);
@@ -43,6 +44,10 @@ text_call halfedge_listing;
 
 /* The factor of an area bit by bit. */
 factor_call bitwise_factor;
+
+/* Checks 1 to 4 and 21, and marks of a spanning tree, in two plain ways: both give the tree of a search by breadth from end 0. */
+marks_call marks_by_points;
+marks_call marks_by_ends;
 
 /* Checks 1 to 7 and the map, in a plain way: the status and pair as pmap_pack gives them. */
 uint32_t plain_pack(const uint16_t *turning, size_t turning_length, const uint8_t *marks, size_t marks_length, size_t start,

@@ -7,6 +7,7 @@
 //   path        m borders one after the other
 //   tree        a random tree: one area, with 2m sides
 //   mixed       n = m/2: a random tree and the other borders side by side, mixed at random: area 1 has a neighbour for each of them
+//   ring        a path of m-1 borders, and one that joins its two ends
 #include "maps.h"
 
 #include <algorithm>
@@ -15,7 +16,7 @@
 #include "calls.h"
 #include "card.h"
 
-const char *const kind_names[ALL_KINDS] = { "random", "loops", "nests", "triangles", "star", "path", "tree", "mixed" };
+const char *const kind_names[WITH_RING] = { "random", "loops", "nests", "triangles", "star", "path", "tree", "mixed", "ring" };
 
 static uint64_t state = 88172645463325252ull;
 
@@ -109,27 +110,6 @@ static size_t add_border(drawing &d, size_t from, size_t to, bool fresh)
     return a;
 }
 
-static void mark_by_breadth(drawing &d)
-{
-    size_t ends = d.turning.size();
-    std::vector<bool> reached(ends);
-    std::vector<size_t> queue;
-    auto reach_point = [&](size_t h) {
-        for (size_t g = h; !reached[g]; g = d.turning[g]) {
-            reached[g] = true;
-            queue.push_back(g);
-        }
-    };
-    reach_point(0);
-    for (size_t i = 0; i < queue.size(); i++) {
-        size_t h = queue[i];
-        if (!reached[h ^ 1]) {
-            d.marks[h / 2] = 1;
-            reach_point(h ^ 1);
-        }
-    }
-}
-
 static drawing triangulate(size_t m)
 {
     drawing d = { { 5, 2, 1, 4, 3, 0 }, { 0, 0, 0 } };
@@ -146,7 +126,6 @@ static drawing triangulate(size_t m)
     }
     while (d.marks.size() < m)
         add_border(d, below(d.turning.size()), 0, true);
-    mark_by_breadth(d);
     return d;
 }
 
@@ -166,20 +145,27 @@ std::vector<uint8_t> make_map(kind k, size_t m)
         return assemble(m, std::vector<bool>(2 * m, true), nest(m), {});
     if (k == NESTS)
         return assemble(m, mixed(m / 2 * 2, 2 * m), nest(m / 2), nest(m - m / 2));
+    if (k == RING) {
+        std::vector<bool> a(2 * m, true);
+        a[0] = a[m] = false;
+        return assemble(m, a, nest(m - 1), nest(1));
+    }
     drawing d = triangulate(m);
     std::vector<uint8_t> bytes(LONGEST);
     std::vector<uint16_t> work(6 * m);
     uint16_t length = 0;
+    if (marks_by_ends(d.turning.data(), d.turning.size(), d.marks.data(), m, work.data(), work.size()) != 0)
+        abort();
     if (plain_pack(d.turning.data(), d.turning.size(), d.marks.data(), m, 0, work.data(), work.size(), bytes.data(), bytes.size(), &length) != 0)
         abort();
     bytes.resize(length);
     return bytes;
 }
 
-std::vector<std::vector<uint8_t>> make_maps(kind k, size_t m)
+std::vector<std::vector<uint8_t>> make_maps(kind k, size_t m, size_t times)
 {
     std::vector<std::vector<uint8_t>> list;
-    for (size_t left = std::min(16384 / m, size_t(256)); left > 0; left--)
+    for (size_t left = times * std::min(16384 / m, size_t(256)); left > 0; left--)
         list.push_back(make_map(k, m));
     return list;
 }

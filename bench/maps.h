@@ -1,4 +1,4 @@
-// Maps to measure on: six kinds, and two more with one large area, of any number of borders.
+// Maps to measure on: six kinds, two more with one large area, and a ring, of any number of borders.
 #ifndef MAPS_H
 #define MAPS_H
 
@@ -12,9 +12,10 @@ struct drawing {
     std::vector<uint8_t> marks;
 };
 
-// The kinds below KINDS are those of every table. The others are for the neighbours of their largest area.
-enum kind { RANDOM, LOOPS, NESTS, TRIANGLES, STAR, PATH, KINDS, TREE = KINDS, MIXED, ALL_KINDS };
-extern const char *const kind_names[ALL_KINDS];
+// The kinds below KINDS are those of every table. Those from there to ALL_KINDS are for the neighbours of their largest area, the ring is
+// for finding marks.
+enum kind { RANDOM, LOOPS, NESTS, TRIANGLES, STAR, PATH, KINDS, TREE = KINDS, MIXED, ALL_KINDS, RING = ALL_KINDS, WITH_RING };
+extern const char *const kind_names[WITH_RING];
 
 size_t below(size_t bound);  // a random number below `bound`, the same in every run
 
@@ -22,8 +23,10 @@ size_t below(size_t bound);  // a random number below `bound`, the same in every
 std::vector<uint8_t> make_map(kind k, size_t m);
 
 // Several of them, to be taken in turn: on one map over and over, a processor comes to know which way each branch will go, and
-// what is timed is no longer what a map costs that comes once.
-std::vector<std::vector<uint8_t>> make_maps(kind k, size_t m);
+// what is timed is no longer what a map costs that comes once. A search for marks has so few branches that this happens on several
+// random maps too, where it looked 2.5 times as fast, but not on MORE times as many.
+const size_t MORE = 4;
+std::vector<std::vector<uint8_t>> make_maps(kind k, size_t m, size_t times = 1);
 
 // m and n, as the header has them.
 size_t borders(const std::vector<uint8_t> &map);

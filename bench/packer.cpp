@@ -4,6 +4,7 @@
 
 #include "calls.h"
 #include "card.h"
+#include "checks.h"
 
 namespace {
 
@@ -82,7 +83,7 @@ size_t put(uint8_t *out, size_t at, const std::vector<bool> &bits)
 extern "C" uint32_t plain_pack(const uint16_t *turning, size_t ends, const uint8_t *marks, size_t m, size_t start, uint16_t *work,
                                size_t work_length, uint8_t *out, size_t out_length, uint16_t *length)
 {
-    if (ends % 2 != 0 || ends > 4096 || m != ends / 2)
+    if (!lengths_fit(ends, m))
         return 1;
     if (work_length < 6 * m || out_length < LONGEST)
         return 2;
@@ -95,12 +96,8 @@ extern "C" uint32_t plain_pack(const uint16_t *turning, size_t ends, const uint8
         if (marks[e] > 1)
             return 3;
     std::fill(work, work + 6 * m, uint16_t(0));
-    std::vector<bool> used(ends);
-    for (size_t h = 0; h < ends; h++) {
-        if (used[turning[h]])
-            return 4;
-        used[turning[h]] = true;
-    }
+    if (repeated(turning, ends))
+        return 4;
     if (!joined(turning, marks, ends))
         return 5;
     size_t n = count_points(turning, ends);

@@ -55,10 +55,3 @@ void show_others(const std::vector<text_version> &versions)
         std::printf(" %14s", versions[i].name);
     std::printf("\n");
 }
-
-void show_ratios(const std::vector<double> &times)
-{
-    for (size_t i = 1; i < times.size(); i++)
-        show_ratio(times[i] / times[0]);
-    std::printf("\n");
-}

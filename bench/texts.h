@@ -23,8 +23,7 @@ task text_task(const text_version &v, const maps &all);
 // The times of all on the same maps, the first one's first.
 std::vector<double> measure_texts(const std::vector<text_version> &versions, const maps &all);
 
-// The names and the ratios of all but the first, to the end of a line of a table.
+// The names of all but the first, to the end of a line of a table.
 void show_others(const std::vector<text_version> &versions);
-void show_ratios(const std::vector<double> &times);
 
 #endif

@@ -42,3 +42,10 @@ void show_ratio(double ratio)
 {
     std::printf(ratio < 1 ? " %12.2f x" : " %12.1f x", ratio);
 }
+
+void show_ratios(const std::vector<double> &times)
+{
+    for (size_t i = 1; i < times.size(); i++)
+        show_ratio(times[i] / times[0]);
+    std::printf("\n");
+}

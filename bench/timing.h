@@ -22,4 +22,7 @@ std::vector<double> measure(const std::vector<task> &tasks);
 // One number of a table: how many times longer something takes.
 void show_ratio(double ratio);
 
+// How many times longer than the first all others take, to the end of a line of a table.
+void show_ratios(const std::vector<double> &times);
+
 #endif

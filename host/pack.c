@@ -1,13 +1,14 @@
 /*
  * pack - what the desk does with a drawing: it packs the drawing and writes the card.
  *
- *     pack DRAWING CARD
+ *     pack [-m] DRAWING CARD
  *
  * DRAWING is a text as `places` reads it: the line `border first second mark`, then for each border its number, the
- * entries of its even and odd end, and its mark; decimal without leading zeros. CARD is written only if the drawing is
- * accepted, and only as a whole: it is written beside, as CARD.part, and then renamed. What is wrong goes to standard
- * error, with refusal 7 the two borders that cross first in the tour, and the exit status is then 1; it is 2 if the desk
- * was not asked properly.
+ * entries of its even and odd end, and its mark; decimal without leading zeros. With -m the desk finds the marks itself:
+ * those of the text are any numbers up to 255, and are not looked at. CARD is written only if the drawing is accepted, and
+ * only as a whole: it is written beside, as CARD.part, and then renamed. What is wrong goes to standard error, with
+ * refusal 7 the two borders that cross first in the tour, and the exit status is then 1; it is 2 if the desk was not asked
+ * properly.
  */
 #include <errno.h>
 #include <stdio.h>
@@ -24,9 +25,9 @@ static uint8_t marks[BORDERS];
 static uint16_t work[6 * BORDERS];
 
 /* One sentence for each refusal of packing. */
-static const char *what_is_wrong(uint32_t status)
+static const char *what_is_wrong(uint8_t status)
 {
-    switch (PMAP_STATUS(status)) {
+    switch (status) {
     case PMAP_RANGE:
         return "an entry is not the number of an end, or a mark is neither 0 nor 1";
     case PMAP_REPEATED:
@@ -42,9 +43,28 @@ static const char *what_is_wrong(uint32_t status)
     }
 }
 
+/* One sentence for each refusal of finding marks, for which the marks of the text are nothing. */
+static const char *why_no_marks(uint8_t status)
+{
+    switch (status) {
+    case PMAP_RANGE:
+        return "an entry is not the number of an end";
+    case PMAP_PIECES:
+        return "the drawing falls into pieces: some two points have no path of borders between them";
+    default:
+        return what_is_wrong(status);
+    }
+}
+
 static void stop(const char *path, const char *words)
 {
     fprintf(stderr, "pack: %s: %s\n", path, words);
+    exit(1);
+}
+
+static void refuse(const char *path, const char *words, unsigned number)
+{
+    fprintf(stderr, "pack: %s: %s (refusal %u)\n", path, words, number);
     exit(1);
 }
 
@@ -53,8 +73,7 @@ static void refuse_text(const char *path, FILE *file, const char *words)
 {
     if (ferror(file))
         stop(path, "the drawing can't be read");
-    fprintf(stderr, "pack: %s: %s (refusal 17)\n", path, words);
-    exit(1);
+    refuse(path, words, 17);
 }
 
 /* The next number of a line, at most `most`, and the byte after it. */
@@ -103,6 +122,30 @@ static size_t read_drawing(const char *path)
     return m;
 }
 
+/* Puts marks of a spanning tree in the place of those that were read. */
+static void find_marks(const char *path, size_t m)
+{
+    uint8_t status = pmap_marks(turning, 2 * m, marks, m, work, 6 * m);
+
+    if (status != PMAP_OK)
+        refuse(path, why_no_marks(status), status);
+}
+
+/* Packs the drawing; the length of the card. */
+static uint16_t pack_drawing(const char *path, size_t m, uint8_t card[PMAP_LONGEST])
+{
+    uint16_t length;
+    uint32_t packed = pmap_pack(turning, 2 * m, marks, m, 0, work, 6 * m, card, PMAP_LONGEST, &length);
+    uint8_t status = PMAP_STATUS(packed);
+
+    if (status == PMAP_CROSSING)
+        fprintf(stderr, "pack: %s: the first that cross in the tour are borders %u and %u\n", path,
+                (unsigned)PMAP_SMALLER(packed), (unsigned)PMAP_LARGER(packed));
+    if (status != PMAP_OK)
+        refuse(path, what_is_wrong(status), status);
+    return length;
+}
+
 /* Writes `card` to a new file; 0 if all of it is there. */
 static int write_file(const char *path, const uint8_t *card, size_t length)
 {
@@ -138,23 +181,19 @@ static void write_card(const char *path, const uint8_t *card, size_t length)
 int main(int argc, char **argv)
 {
     static uint8_t card[PMAP_LONGEST];
-    uint16_t length;
-    uint32_t status;
+    int finds = argc > 1 && strcmp(argv[1], "-m") == 0;
+    const char *from, *to;
     size_t m;
 
-    if (argc != 3) {
-        fprintf(stderr, "usage: pack DRAWING CARD\n");
+    if (argc != 3 + finds) {
+        fprintf(stderr, "usage: pack [-m] DRAWING CARD\n");
         return 2;
     }
-    m = read_drawing(argv[1]);
-    status = pmap_pack(turning, 2 * m, marks, m, 0, work, 6 * m, card, sizeof card, &length);
-    if (PMAP_STATUS(status) == PMAP_CROSSING)
-        fprintf(stderr, "pack: %s: the first that cross in the tour are borders %u and %u\n", argv[1],
-                (unsigned)PMAP_SMALLER(status), (unsigned)PMAP_LARGER(status));
-    if (PMAP_STATUS(status) != PMAP_OK) {
-        fprintf(stderr, "pack: %s: %s (refusal %u)\n", argv[1], what_is_wrong(status), (unsigned)PMAP_STATUS(status));
-        return 1;
-    }
-    write_card(argv[2], card, length);
+    from = argv[1 + finds];
+    to = argv[2 + finds];
+    m = read_drawing(from);
+    if (finds)
+        find_marks(from, m);
+    write_card(to, card, pack_drawing(from, m, card));
     return 0;
 }

@@ -1,6 +1,6 @@
 /*
- * pmap.h - packed maps of rating areas: packing a drawing and unpacking a map; opening, moves, counts, factors, the joining
- * border and whole sessions on the bytes of a map. Link with libpmap.a (`rt staticlib pmap`).
+ * pmap.h - packed maps of rating areas: finding marks for a drawing, packing it and unpacking a map; opening, moves, counts,
+ * factors, the joining border and whole sessions on the bytes of a map. Link with libpmap.a (`rt staticlib pmap`).
  *
  * Proved. For all bytes and all numbers, and as long as the caller keeps to "Memory" and "Doubles" below, every function
  * ends, touches no other memory, and answers and leaves in the memory it was lent what stands here. Not proved: "Time",
@@ -18,14 +18,14 @@
  *
  * Drawings. Border e of a drawing, 0 to m-1, has the ends 2e and 2e+1. Entry h of the turning list is the end that
  * follows end h counterclockwise about its point; there are 2m entries. The marks have one byte for each border: 1 for a
- * border of the spanning tree, else 0. The tour begins at the start, an end (0 if m is 0). Only pmap_pack and
+ * border of the spanning tree, else 0. The tour begins at the start, an end (0 if m is 0). Only pmap_marks, pmap_pack and
  * pmap_unpack have to do with drawings.
  *
  * Status. Every function returns 0 (PMAP_OK) and writes its answer, or it returns the number of the first check that
  * fails, in the order of the list below, and then it has written nothing: every out cell and every out list holds what
  * it held before. Every call on a map runs the checks 8, 20, 9, 10, 11, 12 on the whole map first, in this order, so that
- * pmap_session tests 2 after them. pmap_pack returns two border numbers beside the status, and says what it leaves in its
- * working list.
+ * pmap_session tests 2 after them. pmap_pack returns two border numbers beside the status. It and pmap_marks say what they
+ * leave in their working lists.
  *
  * Memory. `map` points to map_len readable bytes, with no alignment asked for; it may be NULL if map_len is 0. So it is
  * with every list: turning_len, marks_len, work_len, out_len, calls_len, statuses_len, answers_len, kinds_len and values_len
@@ -39,8 +39,8 @@
  * nearest, ties to even, and must not trap, as every C program does unless it asks for something else (fenv.h); the flags of
  * fenv.h may be raised.
  *
- * Time. pmap_pack takes time in proportion to m at most, every call on a map in proportion to map_len, pmap_session to
- * map_len and calls_len together, whatever the map is like. docs/SPEED.md has the times measured.
+ * Time. pmap_pack and pmap_marks take time in proportion to m at most, every call on a map in proportion to map_len,
+ * pmap_session to map_len and calls_len together, whatever the map is like. docs/SPEED.md has the times measured.
  *
  * Stack. No function recurses or allocates. pmap_session, pmap_neighbours, pmap_factor, pmap_joining and pmap_unpack hold
  * lists of the whole map on the stack: the deepest of them was measured at 33,220 bytes below the caller's frame, every other
@@ -63,10 +63,12 @@ extern "C" {
 enum {
     PMAP_OK = 0,           /* success: the answer was written */
     PMAP_LISTS = 1,        /* turning_len is odd or over 4,096, or marks_len is not half of it */
-    PMAP_ROOM = 2,         /* pmap_pack: work_len is under 6m, or out_len under PMAP_LONGEST;
+    PMAP_ROOM = 2,         /* pmap_pack: work_len is under 6m, or out_len under PMAP_LONGEST; pmap_marks: work_len is under 6m;
                               pmap_session: statuses_len or answers_len is under calls_len */
-    PMAP_RANGE = 3,        /* an entry or the start is not below 2m (m = 0: the start is not 0), or a mark is over 1 */
+    PMAP_RANGE = 3,        /* an entry or the start is not below 2m (m = 0: the start is not 0), or a mark is over 1;
+                              pmap_marks: an entry is not below 2m */
     PMAP_REPEATED = 4,     /* two entries of the turning list are equal */
+    PMAP_PIECES = 21,      /* pmap_marks: some two points have no path of borders between them; tested straight after 4 */
     PMAP_APART = 5,        /* the marked borders don't join all points */
     PMAP_MANY_MARKS = 6,   /* they do, and there are more of them than n-1 */
     PMAP_CROSSING = 7,     /* two unmarked borders alternate in the tour: PMAP_SMALLER and PMAP_LARGER name them */
@@ -123,6 +125,21 @@ enum {
 #define PMAP_STATUS(packed) ((uint8_t)((packed) & 0xff))
 #define PMAP_SMALLER(packed) ((uint16_t)((packed) >> 8 & 0xfff))
 #define PMAP_LARGER(packed) ((uint16_t)((packed) >> 20 & 0xfff))
+
+/*
+ * Finds marks for a drawing that has none: writes marks of a spanning tree, one byte for each border, to `marks`. Each is 0
+ * or 1, n-1 of them are 1, and the borders with a 1 join all points. Which tree it is, is left open. With these marks and
+ * any start that is an end (0 if m is 0) the drawing passes 1 to 6, so that pmap_pack packs it or answers 7.
+ *
+ * m is marks_len, and turning_len is to be 2m. What `marks` holds before is overwritten, whatever it is, and is not read. With
+ * any refusal it is left as it was. `work` is a working list of at least 6m entries, left as by pmap_pack: with 1, 2 and 3 as
+ * it was; after any other outcome, success too, its first 6m entries are 0 and the rest is as it was. There are marks for
+ * every drawing whose points are all joined by paths of borders, and 21 is the answer for exactly those others that pass 1
+ * to 4.
+ * Status: 0, 1, 2, 3, 4, 21.
+ */
+uint8_t pmap_marks(const uint16_t *turning, size_t turning_len, uint8_t *marks, size_t marks_len, uint16_t *work,
+                   size_t work_len);
 
 /*
  * Packs a drawing: writes the bytes of its map to the beginning of `out`, and their number, at most PMAP_LONGEST, to *length.

@@ -26,6 +26,19 @@ size_t random_below(size_t bound)
     return (size_t)((random_number() >> 16) % bound);
 }
 
+void exchange(uint16_t *x, uint16_t *y)
+{
+    uint16_t t = *x;
+    *x = *y;
+    *y = t;
+}
+
+void shuffle(uint16_t *row, size_t count)
+{
+    size_t i;
+    for (i = count; i > 1; i--) exchange(&row[i - 1], &row[random_below(i)]);
+}
+
 static void put_bit(uint8_t *string, size_t i, unsigned bit)
 {
     string[i / 8] |= (uint8_t)(bit << i % 8);

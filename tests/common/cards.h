@@ -18,6 +18,10 @@ void seed_random(uint64_t seed);
 uint64_t random_number(void);
 size_t random_below(size_t bound);
 
+/* Two numbers change places; the numbers of a row come in any order. */
+void exchange(uint16_t *x, uint16_t *y);
+void shuffle(uint16_t *row, size_t count);
+
 /* A card that opens: m borders, n points (1 to m+1). `lean`, 0 to 8, is how readily brackets open: 4 is even. */
 void random_card(struct card *card, size_t m, size_t n, unsigned lean);
 

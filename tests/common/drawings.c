@@ -78,6 +78,24 @@ int add_handle(struct drawing *d)
     return 1;
 }
 
+/* ---- by chance ---- */
+
+void scatter(struct drawing *d, size_t m, size_t most)
+{
+    static uint16_t ends[MOST_ENDS];
+    size_t h, first, count;
+    for (h = 0; h < 2 * m; h++) ends[h] = (uint16_t)h;
+    shuffle(ends, 2 * m);
+    for (first = 0; first < 2 * m; first += count) {
+        count = 1 + random_below(most);
+        if (count > 2 * m - first) count = 2 * m - first;
+        for (h = 0; h < count; h++) d->turning[ends[first + h]] = ends[first + (h + 1) % count];
+    }
+    for (h = 0; h < m; h++) d->marks[h] = 0;
+    d->m = m;
+    d->start = 0;
+}
+
 /* ---- trees ---- */
 
 /* Names the point of each end by one of its ends. */
@@ -91,18 +109,25 @@ static void name_points(const struct drawing *d, size_t *point)
 
 size_t mark_tree(struct drawing *d)
 {
-    static size_t point[MOST_ENDS], order[MOST_BORDERS];
-    size_t e, i, h, marks = 0;
-
-    name_points(d, point);
+    static size_t order[MOST_BORDERS];
+    size_t e;
     for (e = 0; e < d->m; e++) {
         size_t j = random_below(e + 1);
         order[e] = order[j];
         order[j] = e;
-        d->marks[e] = 0;
     }
+    return mark_tree_in(d, order);
+}
+
+size_t mark_tree_in(struct drawing *d, const size_t *order)
+{
+    static size_t point[MOST_ENDS];
+    size_t i, h, marks = 0;
+
+    name_points(d, point);
     for (i = 0; i < d->m; i++) {
         size_t u = point[2 * order[i]], v = point[2 * order[i] + 1];
+        d->marks[order[i]] = 0;
         if (u == v) continue;
         d->marks[order[i]] = 1;
         marks++;

@@ -20,13 +20,24 @@ size_t tour_after(const struct drawing *d, size_t h)
 
 /* ---- "Numbers returned when a call declines", 1 to 7 ---- */
 
-static int in_range(const struct drawing *d)
+static int entries_in_range(const struct drawing *d)
 {
-    size_t i;
-    for (i = 0; i < 2 * d->m; i++)
-        if (d->turning[i] >= 2 * d->m) return 0;
-    for (i = 0; i < d->m; i++)
-        if (d->marks[i] > 1) return 0;
+    size_t h;
+    for (h = 0; h < 2 * d->m; h++)
+        if (d->turning[h] >= 2 * d->m) return 0;
+    return 1;
+}
+
+static int marks_in_range(const struct drawing *d)
+{
+    size_t e;
+    for (e = 0; e < d->m; e++)
+        if (d->marks[e] > 1) return 0;
+    return 1;
+}
+
+static int start_in_range(const struct drawing *d)
+{
     return d->m == 0 ? d->start == 0 : d->start < 2 * d->m;
 }
 
@@ -65,7 +76,7 @@ size_t count_areas(const struct drawing *d)
     return count_cycles(d, 1);
 }
 
-/* ---- 5: ends are merged along turns and marked borders, and one class must be left ---- */
+/* ---- 5 and 21: ends are merged along turns and borders, and one class must be left ---- */
 
 static size_t class_of(size_t *parent, size_t h)
 {
@@ -81,15 +92,38 @@ static size_t merge(size_t *parent, size_t g, size_t h)
     return a != b;
 }
 
-static int marks_join(const struct drawing *d)
+/* Whether all borders, or the marked ones alone, join all points. */
+static int join_all(const struct drawing *d, int marked_only)
 {
     size_t parent[MOST_ENDS], h, classes = 2 * d->m;
     for (h = 0; h < 2 * d->m; h++) parent[h] = h;
     for (h = 0; h < 2 * d->m; h++) {
         classes -= merge(parent, h, d->turning[h]);
-        if (marked(d, h)) classes -= merge(parent, h, other(h));
+        if (!marked_only || marked(d, h)) classes -= merge(parent, h, other(h));
     }
     return classes <= 1;
+}
+
+int marks_join(const struct drawing *d)
+{
+    return join_all(d, 1);
+}
+
+int borders_join(const struct drawing *d)
+{
+    return join_all(d, 0);
+}
+
+size_t count_marks(const struct drawing *d)
+{
+    size_t e, marks = 0;
+    for (e = 0; e < d->m; e++) marks += d->marks[e];
+    return marks;
+}
+
+int marks_a_tree(const struct drawing *d)
+{
+    return marks_in_range(d) && count_marks(d) == count_points(d) - 1 && marks_join(d);
 }
 
 /* ---- 7: all pairs ---- */
@@ -134,26 +168,44 @@ struct crossing first_crossing(const struct drawing *d)
 uint8_t drawing_refusal(const struct drawing *d)
 {
     struct crossing pair;
-    size_t e, marks = 0;
-    if (!in_range(d)) return 3;
+    if (!entries_in_range(d) || !marks_in_range(d) || !start_in_range(d)) return 3;
     if (!entries_differ(d)) return 4;
     if (!marks_join(d)) return 5;
-    for (e = 0; e < d->m; e++) marks += d->marks[e];
-    if (marks > count_points(d) - 1) return 6;
+    if (count_marks(d) > count_points(d) - 1) return 6;
     pair = first_crossing(d);
     return pair.a != pair.b ? 7 : 0;
 }
 
-uint8_t pack_refusal(const struct lent *lent, struct drawing *d)
+static int lengths_fit(const struct lent *lent)
+{
+    return lent->turning_len % 2 == 0 && lent->turning_len <= 4096 && lent->marks_len == lent->turning_len / 2;
+}
+
+static void lay_out(const struct lent *lent, struct drawing *d)
 {
     size_t i;
-    if (lent->turning_len % 2 == 1 || lent->turning_len > 4096 || lent->marks_len != lent->turning_len / 2) return 1;
-    if (lent->work_len < 6 * lent->marks_len || lent->out_len < LONGEST) return 2;
     d->m = lent->marks_len;
     d->start = lent->start;
     for (i = 0; i < lent->turning_len; i++) d->turning[i] = lent->turning[i];
     for (i = 0; i < lent->marks_len; i++) d->marks[i] = lent->marks[i];
+}
+
+uint8_t pack_refusal(const struct lent *lent, struct drawing *d)
+{
+    if (!lengths_fit(lent)) return 1;
+    if (lent->work_len < 6 * lent->marks_len || lent->out_len < LONGEST) return 2;
+    lay_out(lent, d);
     return drawing_refusal(d);
+}
+
+uint8_t marks_refusal(const struct lent *lent, struct drawing *d)
+{
+    if (!lengths_fit(lent)) return 1;
+    if (lent->work_len < 6 * lent->marks_len) return 2;
+    lay_out(lent, d);
+    if (!entries_in_range(d)) return 3;
+    if (!entries_differ(d)) return 4;
+    return borders_join(d) ? 0 : 21;
 }
 
 /* ---- 8, 20, 9 to 12, and unpacking ---- */

@@ -1,10 +1,10 @@
 /*
  * Document 01 once more, from the drawing's side: what is wrong with a drawing or with a card, the drawing that bytes unpack
  * to, and the drawing's book with its sessions; and of document 02 the crossing that request 2/14 fixes and the neighbours as
- * request 3/14 counts them, and the count of areas that request 6/14 puts on a card. Written from the documents alone, and the codes of
- * calls from include/pmap.h, so that the library can be compared with it; slow and plain on purpose, and where there is a choice not
- * in the library's way: marks are followed by merging points, the crossing of 7 is looked for among all pairs, the sides of an area
- * among all ends, and the count that a card gets is that of the drawing's area walks.
+ * request 3/14 counts them, the count of areas that request 6/14 puts on a card, and what holds of the marks that request 7/14 finds.
+ * Written from the documents alone, and the codes of calls from include/pmap.h, so that the library can be compared with it; slow and
+ * plain on purpose, and where there is a choice not in the library's way: borders are followed by merging points, the crossing of 7 is
+ * looked for among all pairs, the sides of an area among all ends, and the count that a card gets is that of the drawing's area walks.
  */
 #ifndef REFERENCE_H
 #define REFERENCE_H
@@ -61,7 +61,7 @@ struct reply {
 /* The first of 3 to 7 that applies to a drawing whose lists have the right lengths; 0 where none does. */
 uint8_t drawing_refusal(const struct drawing *d);
 
-/* What packing is lent: lists of any length. */
+/* What packing is lent: lists of any length. Finding marks is lent the same, but for the start and the output. */
 struct lent {
     const uint16_t *turning;
     size_t turning_len;
@@ -74,9 +74,22 @@ struct lent {
 /* The first of 1 to 7 that applies; 0 where none does. Unless it is 1 or 2, the lists are laid out as a drawing. */
 uint8_t pack_refusal(const struct lent *lent, struct drawing *d);
 
+/* Request 7/14: the first of 1 to 4 and 21 that applies to finding marks, for which "start, mark values and map output" are nothing;
+   0 where none does. Unless it is 1 or 2, the lists are laid out as a drawing. */
+uint8_t marks_refusal(const struct lent *lent, struct drawing *d);
+
 /* The number of points, and of area walks (1 if m = 0), of a drawing that passes 3 and 4. */
 size_t count_points(const struct drawing *d);
 size_t count_areas(const struct drawing *d);
+
+/* The sum of the marks; whether the marked borders join all points, and whether all borders do, of a drawing whose entries are in
+   range. */
+size_t count_marks(const struct drawing *d);
+int marks_join(const struct drawing *d);
+int borders_join(const struct drawing *d);
+
+/* "every mark is 0 or 1, n-1 are 1, and those borders join all points" */
+int marks_a_tree(const struct drawing *d);
 
 /* The two places of each border in the tour of a drawing that passes 3 to 6, the lower first. */
 struct places {

@@ -25,7 +25,7 @@ static library_call *call;
 static struct card card;
 static size_t asked, left, areas;
 static uint16_t turning[2 * BORDERS], again[2 * BORDERS], work[6 * BORDERS], answers[CALLS], m, n, out;
-static uint8_t marks[BORDERS], status, bytes[PMAP_LONGEST], calls[CALLS], statuses[CALLS];
+static uint8_t marks[BORDERS], found[BORDERS], status, bytes[PMAP_LONGEST], calls[CALLS], statuses[CALLS];
 static uint8_t kinds[AREAS];
 static double values[3 * AREAS], factor;
 static uint32_t packed;
@@ -37,6 +37,7 @@ static void find_factor(void) { status = pmap_factor(card.bytes, card.length, as
 static void join(void) { status = pmap_joining(card.bytes, card.length, asked, asked, &out); }
 static void run_session(void) { status = pmap_session(card.bytes, card.length, asked, calls, CALLS, statuses, CALLS, answers, CALLS, &left); }
 static void unpack_card(void) { status = pmap_unpack(card.bytes, card.length, turning, 2 * BORDERS, marks, BORDERS, &m); }
+static void find_marks(void) { status = pmap_marks(again, 2 * (size_t)m, found, m, work, 6 * (size_t)m); }
 static void pack_drawing(void) { packed = pmap_pack(again, 2 * (size_t)m, marks, m, 0, work, 6 * (size_t)m, bytes, sizeof bytes, &out); }
 
 static void enter(void) { task(); }
@@ -103,7 +104,7 @@ static void keep_most_of_first(size_t points, unsigned lean, size_t *neighbours,
 int main(void)
 {
     size_t opening = 0, places = 0, points = 0, of_areas = 0, neighbours = 0, factors = 0, joining = 0, sessions = 0, unpacking = 0,
-           packing = 0, round, i;
+           marking = 0, packing = 0, round, i;
     int over = 0;
 
     base = used(nothing);
@@ -138,11 +139,13 @@ int main(void)
         if (round % 20 == 0) {
             keep_most(&unpacking, unpack_card);
             memcpy(again, turning, sizeof again);
+            keep_most(&marking, find_marks);
             keep_most(&packing, pack_drawing);
             if (m > 1) { /* two entries exchanged: another drawing, or none that passes all checks */
                 i = random_below(2 * (size_t)m);
                 again[i] = turning[0];
                 again[0] = turning[i];
+                keep_most(&marking, find_marks);
                 keep_most(&packing, pack_drawing);
             }
         }
@@ -158,6 +161,7 @@ int main(void)
     over |= show("pmap_joining", joining);
     over |= show("pmap_session", sessions);
     over |= show("pmap_unpack", unpacking);
+    over |= show("pmap_marks", marking);
     over |= show("pmap_pack", packing);
     return over;
 }

@@ -1,6 +1,6 @@
 /*
- * Compares packing, unpacking and sessions on packed bytes with an independent account of document 01, on drawings and
- * cards of every kind.
+ * Compares finding marks, packing, unpacking and sessions on packed bytes with an independent account of document 01 and of
+ * request 7/14, on drawings and cards of every kind.
  *
  *     check              everything
  *     check small        the parts on small drawings, and fewer of them
@@ -44,6 +44,11 @@ static const struct {
     {headers, ALL, "headers about every bound, unpacked"},
     {good_drawings, SOME, "good drawings of up to 40 borders: packed, unpacked, walked"},
     {large_drawings, NONE, "good drawings of up to 2,048 borders: packed, unpacked, walked"},
+    {known_marks, ALL, "marks by hand"},
+    {grown_marks, SOME, "marks for drawings in the plane and not: found, and packed with"},
+    {scattered_marks, SOME, "marks for drawings by chance, of one part or several"},
+    {parted_marks, SOME, "marks for drawings of several parts"},
+    {large_marks, NONE, "marks for drawings of 2,048 borders"},
     {every_status, ALL, "every status was seen"},
 };
 

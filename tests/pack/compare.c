@@ -1,4 +1,4 @@
-/* Comparing packing and unpacking with the reference. */
+/* Comparing packing, finding marks and unpacking with the reference. */
 #include "compare.h"
 
 #include <stdio.h>
@@ -18,6 +18,25 @@ static size_t some_more(void)
     return random_below(2) ? 0 : 1 + random_below(40);
 }
 
+/* "Pack's working list is untouched by 1 to 3. After any other outcome its first 6m entries are 0 and the rest untouched." Finding
+   marks "leaves its working list as packing does". */
+static void leave_work(uint16_t *work, const struct lent *lent, uint8_t status)
+{
+    if (status == 0 || status > 3) memset(work, 0, 6 * lent->marks_len * sizeof *work);
+}
+
+static void lent_differs(const char *call, const struct lent *lent, const char *what, uint32_t given, uint32_t want)
+{
+    char detail[400];
+    size_t i;
+    int at = snprintf(detail, sizeof detail, "%s; gives %08X, wanted %08X; lengths %zu %zu %zu %zu, start %zu, turning", what,
+                      (unsigned)given, (unsigned)want, lent->turning_len, lent->marks_len, lent->work_len, lent->out_len, lent->start);
+    for (i = 0; i < lent->turning_len && i < 12; i++) at += sprintf(detail + at, " %u", lent->turning[i]);
+    at += sprintf(detail + at, ", marks");
+    for (i = 0; i < lent->marks_len && i < 6; i++) at += sprintf(detail + at, " %u", lent->marks[i]);
+    differs(call, NULL, 0, detail);
+}
+
 /* ---- packing ---- */
 
 static struct loan turning_loan, marks_loan, work_loan, out_loan, map_loan;
@@ -31,7 +50,6 @@ struct left {
     size_t length;
 };
 
-/* "Pack's working list is untouched by 1 to 3. After any other outcome its first 6m entries are 0 and the rest untouched." */
 static void work_out(struct left *left, const struct lent *lent, uint8_t status)
 {
     left->length = OLD;
@@ -39,7 +57,7 @@ static void work_out(struct left *left, const struct lent *lent, uint8_t status)
         expect(make_book(&drawing, &book), "reference", "the tour of a good drawing does not meet every end");
         left->length = pack(&book, left->out);
     }
-    if (status == 0 || status > 3) memset(left->work, 0, 6 * lent->marks_len * sizeof *left->work);
+    leave_work(left->work, lent, status);
 }
 
 /* The status, and with 7 the first crossing above it: "The smaller number is still written first." */
@@ -52,23 +70,15 @@ static uint32_t wanted_word(const struct drawing *d, uint8_t status)
     return 7u | (uint32_t)pair.b << 8 | (uint32_t)pair.a << 20;
 }
 
-/* By Euler's count: a drawing that passes 1 to 6 is one in the plane exactly if it has m-n+2 areas. */
+int in_plane(const struct drawing *d)
+{
+    return count_areas(d) + count_points(d) == d->m + 2;
+}
+
 static int agrees_with_areas(const struct drawing *d, uint8_t status)
 {
     if (status != 0 && status != 7) return 1;
-    return (status == 0) == (count_areas(d) + count_points(d) == d->m + 2);
-}
-
-static void pack_differs(const struct lent *lent, const char *what, uint32_t packed, uint32_t want)
-{
-    char detail[400];
-    size_t i;
-    int at = snprintf(detail, sizeof detail, "%s; gives %08X, wanted %08X; lengths %zu %zu %zu %zu, start %zu, turning", what,
-                      (unsigned)packed, (unsigned)want, lent->turning_len, lent->marks_len, lent->work_len, lent->out_len, lent->start);
-    for (i = 0; i < lent->turning_len && i < 12; i++) at += sprintf(detail + at, " %u", lent->turning[i]);
-    at += sprintf(detail + at, ", marks");
-    for (i = 0; i < lent->marks_len && i < 6; i++) at += sprintf(detail + at, " %u", lent->marks[i]);
-    differs("pmap_pack", NULL, 0, detail);
+    return (status == 0) == in_plane(d);
 }
 
 size_t compare_pack(const struct lent *lent, uint8_t *map)
@@ -100,7 +110,7 @@ size_t compare_pack(const struct lent *lent, uint8_t *map)
     if (!agrees_with_areas(&drawing, status)) wrong = "the reference does not agree with the number of areas";
     compared_one();
     if (wrong == NULL) seen_once(status);
-    else pack_differs(lent, wrong, packed, wanted_word(&drawing, status));
+    else lent_differs("pmap_pack", lent, wrong, packed, wanted_word(&drawing, status));
     return status == 0 && wrong == NULL ? left.length : 0;
 }
 
@@ -116,6 +126,40 @@ struct lent lend_drawing(const struct drawing *d)
     lent.work_len = 6 * d->m + some_more();
     lent.out_len = LONGEST + some_more();
     return lent;
+}
+
+/* ---- finding marks ---- */
+
+int compare_marks(const struct lent *lent, struct drawing *found)
+{
+    static uint16_t work_left[MOST_ENTRIES];
+    uint8_t status = marks_refusal(lent, found), given, *marks;
+    const uint16_t *turning = lend_list(&turning_loan, lent->turning, 2 * lent->turning_len);
+    const char *wrong = NULL;
+    uint16_t *work;
+
+    fill(work_left, 2 * lent->work_len);
+    marks = lend_list(&marks_loan, lent->marks, lent->marks_len);
+    work = lend_list(&work_loan, work_left, 2 * lent->work_len);
+    given = pmap_marks(turning, lent->turning_len, marks, lent->marks_len, work, lent->work_len);
+    leave_work(work_left, lent, status);
+    if (status == 0 && given == 0 && found->m > 0) memcpy(found->marks, marks, found->m);
+
+    if (given != status) wrong = "another status";
+    else if (status == 0 && !marks_a_tree(found)) wrong = "the marks are not those of a spanning tree";
+    if (!take_back(&turning_loan, lent->turning)) wrong = "the turning list was changed";
+    if (!take_back(&marks_loan, status == 0 ? found->marks : lent->marks)) wrong = "the marks are not as they must be";
+    if (!take_back(&work_loan, work_left)) wrong = "the working list is not as it must be";
+    compared_one();
+    if (wrong == NULL) seen_once(status);
+    else lent_differs("pmap_marks", lent, wrong, given, status);
+    return status == 0 && wrong == NULL;
+}
+
+int compare_marks_status(const struct lent *lent, struct drawing *found, uint8_t status)
+{
+    expect(marks_refusal(lent, found) == status, "reference", "gives another status than the drawing was made for");
+    return compare_marks(lent, found);
 }
 
 /* ---- unpacking ---- */

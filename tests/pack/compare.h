@@ -1,4 +1,4 @@
-/* Comparing packing, unpacking and sessions with the reference: the answer, and all memory that was lent. */
+/* Comparing finding marks, packing, unpacking and sessions with the reference: the answer, and all memory that was lent. */
 #ifndef COMPARE_H
 #define COMPARE_H
 
@@ -12,6 +12,19 @@ size_t compare_pack_status(const struct lent *lent, uint8_t *map, uint8_t status
 
 /* A drawing with lists that are long enough: exactly, or by chance longer. */
 struct lent lend_drawing(const struct drawing *d);
+
+/* Finds marks for what is lent, where the marks are what their list holds beforehand. Gives 1 and the drawing with the marks that were
+   found, or 0 where it is rightly refused or differs. */
+int compare_marks(const struct lent *lent, struct drawing *found);
+
+/* The same, where the status is known without the reference. */
+int compare_marks_status(const struct lent *lent, struct drawing *found, uint8_t status);
+
+/* Finds marks for a drawing, the same whatever their list held before; with them and with other trees it is packed from several starts. */
+void compare_found(const struct drawing *d);
+
+/* By Euler's count: a drawing whose points are all joined is one in the plane exactly if it has m-n+2 areas. */
+int in_plane(const struct drawing *d);
 
 /* Unpacks bytes into lists of so many entries. `want` is the drawing that must come out, or NULL for the reference's. */
 void compare_unpack(const uint8_t *map, size_t length, size_t turning_len, size_t marks_len, const struct drawing *want);

@@ -75,19 +75,6 @@ static void known_row(const char *letters, uint16_t smaller, uint16_t larger)
 
 /* ---- rows by chance ---- */
 
-static void exchange(uint16_t *x, uint16_t *y)
-{
-    uint16_t t = *x;
-    *x = *y;
-    *y = t;
-}
-
-static void shuffle(uint16_t *row, size_t count)
-{
-    size_t i;
-    for (i = count; i > 1; i--) exchange(&row[i - 1], &row[random_below(i)]);
-}
-
 /* Borders that nest or stand side by side, with numbers in any order. */
 static void nest(uint16_t *row, size_t m)
 {

@@ -12,7 +12,7 @@
 #include "tally.h"
 
 static uint8_t map[LONGEST];
-static struct drawing drawing;
+static struct drawing drawing, found;
 
 /* ---- document 01's own numbers, without the reference ---- */
 
@@ -100,6 +100,7 @@ static void try_lengths(size_t turning_len, size_t marks_len)
     if (lent.work_len > 6 * 2050) lent.work_len = 6 * 2050;
     make_star(turning, marks, turning_len / 2);
     compare_pack_status(&lent, map, fits ? 0 : 1);
+    compare_marks_status(&lent, &found, fits ? 0 : 1);
 }
 
 void lengths(void)
@@ -132,6 +133,7 @@ void no_borders(void)
             for (work = 0; work < 8; work++) {
                 struct lent lent = {NULL, 0, NULL, 0, starts[i], work, outs[j]};
                 compare_pack_status(&lent, map, outs[j] < LONGEST ? 2 : starts[i] != 0 ? 3 : 0);
+                compare_marks_status(&lent, &found, 0);
             }
 }
 
@@ -147,6 +149,7 @@ void one_border(void)
                     uint16_t turning[2] = {entries[code % 5], entries[code / 5 % 5]};
                     struct lent lent = {turning, 2, &marks[code / 25], 1, start < 3 ? start : odd_starts[start - 3], work, out};
                     compare_pack(&lent, map);
+                    compare_marks(&lent, &found);
                 }
 }
 
@@ -178,6 +181,7 @@ void two_borders(void)
     memset(drawing.turning, 0, 4 * sizeof *drawing.turning);
     drawing.m = 2;
     do {
+        compare_found(&drawing);
         for (code = 0; code < marks * marks; code++) {
             drawing.marks[0] = (uint8_t)(code % marks);
             drawing.marks[1] = (uint8_t)(code / marks);
@@ -215,6 +219,7 @@ void more_borders(void)
     for (drawing.m = 3; drawing.m <= 4; drawing.m++) {
         for (h = 0; h < 2 * drawing.m; h++) drawing.turning[h] = (uint16_t)h;
         do {
+            compare_found(&drawing);
             for (marks = 0; marks < (size_t)1 << drawing.m; marks++) {
                 for (e = 0; e < drawing.m; e++) drawing.marks[e] = marks >> e & 1;
                 drawing.start = random_below(2 * drawing.m);
@@ -227,6 +232,7 @@ void more_borders(void)
     memset(drawing.turning, 0, 6 * sizeof *drawing.turning);
     do {
         if (!repeats(drawing.turning, 6)) continue;
+        compare_found(&drawing);
         for (e = 0; e < 3; e++) drawing.marks[e] = (uint8_t)random_below(2);
         drawing.start = random_below(6);
         try_drawing(&drawing);
@@ -250,6 +256,7 @@ void rooms(void)
                 lent.work_len = works[j];
                 lent.out_len = outs[k];
                 compare_pack_status(&lent, map, works[j] < 6 * m || outs[k] < LONGEST ? 2 : 0);
+                compare_marks_status(&lent, &found, works[j] < 6 * m ? 2 : 0);
             }
     }
 }

@@ -8,7 +8,7 @@
 #include "tally.h"
 
 static uint8_t map[LONGEST];
-static struct drawing drawing, second;
+static struct drawing drawing, second, found;
 
 /* ---- checks 1 to 7: a set of them is broken, and the lowest must be given ---- */
 
@@ -98,6 +98,7 @@ static void try_set(unsigned set)
     if (BREAKS(set, 1)) break_lengths(&lent);
     while (!BREAKS(set, lowest)) lowest++;
     compare_pack_status(&lent, map, lowest);
+    compare_marks(&lent, &found);
 }
 
 void broken(void)
@@ -204,6 +205,6 @@ void large_drawings(void)
 /* Every status came up, so no part above ran idle. */
 void every_status(void)
 {
-    static const uint8_t statuses[] = {0, 1, 2, 3, 4, 5, 6, 7, 8, 20, 9, 10, 11, 12, 13, 16};
+    static const uint8_t statuses[] = {0, 1, 2, 3, 4, 21, 5, 6, 7, 8, 20, 9, 10, 11, 12, 13, 16};
     expect_seen(statuses, sizeof statuses);
 }

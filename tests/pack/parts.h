@@ -29,6 +29,13 @@ void handles(void);
 void good_drawings(void);
 void large_drawings(void);
 
+/* marks.c: finding marks */
+void known_marks(void);
+void grown_marks(void);
+void scattered_marks(void);
+void parted_marks(void);
+void large_marks(void);
+
 void every_status(void);
 
 #endif

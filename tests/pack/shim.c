@@ -1,12 +1,13 @@
 /*
- * Packing and unpacking on top of the reference, to test the test program: with FAULT 0 in the environment nothing may
- * differ, and with each FAULT here, a mistake that a library could make, something must.
+ * Finding marks, packing and unpacking on top of the reference, to test the test program: with FAULT 0 in the environment
+ * nothing may differ, and with each FAULT here, a mistake that a library could make, something must.
  */
 #include "shim.h"
 
 #include <string.h>
 
 #include "damage.h"
+#include "drawings.h"
 #include "examples.h"
 #include "pmap.h"
 #include "reference.h"
@@ -25,13 +26,6 @@ static int has_equal(const struct lent *lent)
     return 0;
 }
 
-static size_t count_marks(void)
-{
-    size_t e, marks = 0;
-    for (e = 0; e < drawing.m; e++) marks += drawing.marks[e];
-    return marks;
-}
-
 static void change_lent(struct lent *lent)
 {
     static uint8_t marks[MOST_BORDERS];
@@ -48,14 +42,14 @@ static void change_lent(struct lent *lent)
 
 static uint8_t changed_status(const struct lent *lent, uint8_t status)
 {
-    if (FAULT == 26 && status == 6 && make_book(&drawing, &book)) return 0;              /* the tree by the tour's length */
-    if (FAULT == 27 && status == 6) return 5;                                            /* no 6 beside 5 */
-    if (FAULT == 28 && status == 3 && has_equal(lent)) return 4;                         /* tests 4 before 3 */
-    if (FAULT == 29 && status == 7) return 0;                                            /* does not look for 7 */
-    if (FAULT == 30 && lent->turning_len == 4098) return 2;                              /* takes lists of 4,098 as fitting */
-    if (FAULT == 31 && lent->marks_len == 0 && status == 0) return 5;                    /* declines the empty drawing */
-    if (FAULT == 32) return status == 0 ? 7 : status;                                    /* declines every drawing */
-    if (FAULT == 33 && status == 5 && count_marks() >= count_points(&drawing)) return 6; /* tests 6 before 5 */
+    if (FAULT == 26 && status == 6 && make_book(&drawing, &book)) return 0;                      /* the tree by the tour's length */
+    if (FAULT == 27 && status == 6) return 5;                                                    /* no 6 beside 5 */
+    if (FAULT == 28 && status == 3 && has_equal(lent)) return 4;                                 /* tests 4 before 3 */
+    if (FAULT == 29 && status == 7) return 0;                                                    /* does not look for 7 */
+    if (FAULT == 30 && lent->turning_len == 4098) return 2;                                      /* takes lists of 4,098 as fitting */
+    if (FAULT == 31 && lent->marks_len == 0 && status == 0) return 5;                            /* declines the empty drawing */
+    if (FAULT == 32) return status == 0 ? 7 : status;                                            /* declines every drawing */
+    if (FAULT == 33 && status == 5 && count_marks(&drawing) >= count_points(&drawing)) return 6; /* tests 6 before 5 */
     return status;
 }
 
@@ -122,18 +116,24 @@ static uint32_t with_pair(uint8_t status)
 
 /* ---- packing: memory ---- */
 
+/* No more than there is. */
+static void clear(const struct lent *lent, uint16_t *work, size_t entries)
+{
+    if (entries > lent->work_len) entries = lent->work_len;
+    if (entries > 0) memset(work, 0, 2 * entries);
+}
+
 static void leave_work(const struct lent *lent, uint16_t *work, uint8_t status)
 {
     size_t entries = 6 * lent->marks_len;
-    if (FAULT == 51 && status == 3) memset(work, 0, 2 * entries); /* clears it with 3 */
+    if (FAULT == 51 && status == 3) clear(lent, work, entries); /* clears it with 3 */
     if (status != 0 && status <= 3) return;
-    if (FAULT == 52 && status == 4) return;                 /* leaves it as it was with 4 */
-    if (FAULT == 53 && status == 0) return;                 /* leaves it as it was where the map is written */
-    if (FAULT == 54 && entries > 0) entries--;              /* clears one entry too few */
-    if (FAULT == 55 && lent->work_len > entries) entries++; /* clears one entry too many */
-    if (FAULT == 56) entries = lent->work_len;              /* clears all of it */
-    if (entries > lent->work_len) entries = lent->work_len;
-    if (entries > 0) memset(work, 0, 2 * entries);
+    if (FAULT == 52 && status == 4) return;    /* leaves it as it was with 4 */
+    if (FAULT == 53 && status == 0) return;    /* leaves it as it was where the map is written */
+    if (FAULT == 54 && entries > 0) entries--; /* clears one entry too few */
+    if (FAULT == 55) entries++;                /* clears one entry too many */
+    if (FAULT == 56) entries = lent->work_len; /* clears all of it */
+    clear(lent, work, entries);
 }
 
 static void write_map(const struct lent *lent, uint8_t *out, uint16_t *length)
@@ -169,6 +169,142 @@ uint32_t pmap_pack(const uint16_t *turning, size_t turning_len, const uint8_t *m
     leave_work(&lent, work, status);
     if (status == 0) write_map(&lent, out, length);
     return with_pair(status);
+}
+
+/* ---- finding marks: the status ---- */
+
+static void change_lists(struct lent *lent)
+{
+    if (FAULT == 261) lent->work_len++;                                                       /* takes a working list that is one short */
+    if (FAULT == 262 && lent->work_len > 0) lent->work_len--;                                 /* wants one entry more than 6m */
+    if (FAULT == 263) lent->turning_len -= lent->turning_len % 2;                             /* takes a turning list of odd length */
+    if (FAULT == 264 && 2 * lent->marks_len == lent->turning_len + 2) lent->marks_len--;      /* takes one mark too many */
+    if (FAULT == 265 && 2 * lent->marks_len + 2 == lent->turning_len) lent->turning_len -= 2; /* takes one mark too few */
+}
+
+static int has_loop(void)
+{
+    size_t e, h;
+    for (e = 0; e < drawing.m; e++)
+        for (h = drawing.turning[2 * e]; h != 2 * e; h = drawing.turning[h])
+            if (h == 2 * e + 1) return 1;
+    return 0;
+}
+
+static uint8_t changed_outcome(const struct lent *lent, uint8_t status)
+{
+    if (FAULT == 266 && lent->turning_len == 4098) return 2;                                    /* takes lists of 4,098 as fitting */
+    if (FAULT == 267 && status == 3 && has_equal(lent)) return 4;                               /* tests 4 before 3 */
+    if (FAULT == 268 && status == 4 && !borders_join(&drawing)) return 21;                      /* tests 21 before 4 */
+    if (FAULT == 269 && status == 21) return 0;                                                 /* does not look for 21 */
+    if (FAULT == 270 && status == 21) return 5;                                                 /* gives 5 for 21 */
+    if (FAULT == 271 && status == 0 && has_loop()) return 21;                                   /* gives 21 wherever there is a loop */
+    if (FAULT == 272 && status == 0 && drawing.m == 0) return 21;                               /* declines the empty drawing */
+    if (FAULT == 273 && status == 0 && !marks_join(&drawing)) return 21;                        /* crosses the borders marked before only */
+    if (FAULT == 274 && status != 1 && status != 2 && drawing_refusal(&drawing) == 3) return 3; /* gives 3 for a mark over 1 */
+    if (FAULT == 275) return status == 0 ? 21 : status;                                         /* declines every drawing */
+    if (FAULT == 301 && status == 0 && drawing.m == 2048) return 1;                             /* takes lists under 4,096 only */
+    return status;
+}
+
+/* ---- finding marks: the tree ---- */
+
+static uint8_t held[MOST_BORDERS]; /* what the marks held before */
+
+/* The tree that takes borders by their numbers, lowest first. */
+static void find_tree(void)
+{
+    static size_t order[MOST_BORDERS];
+    size_t e, count = 0;
+    memcpy(held, drawing.marks, drawing.m);
+    for (e = 0; e < drawing.m; e++)
+        if (FAULT == 276 && held[e] == 1) order[count++] = e; /* a tree too, but those that were marked come first */
+    for (e = 0; e < drawing.m; e++)
+        if (FAULT != 276 || held[e] != 1) order[count++] = e;
+    mark_tree_in(&drawing, order);
+}
+
+/* The first border with this mark gets the other one. Gives its number; m if there is none. */
+static size_t change_mark(uint8_t mark)
+{
+    size_t e = 0;
+    while (e < drawing.m && drawing.marks[e] != mark) e++;
+    if (e < drawing.m) drawing.marks[e] = !mark;
+    return e;
+}
+
+/* One border more that closes a ring, and one fewer outside the ring, where there is one. */
+static void make_ring(void)
+{
+    size_t added = change_mark(0), e;
+    for (e = 0; added < drawing.m && e < drawing.m; e++) {
+        if (e == added || !drawing.marks[e]) continue;
+        drawing.marks[e] = 0;
+        if (!marks_join(&drawing)) return;
+        drawing.marks[e] = 1;
+    }
+    if (added < drawing.m) drawing.marks[added] = 0;
+}
+
+static void change_tree(void)
+{
+    size_t e;
+    if (FAULT == 277) change_mark(0); /* one border too many */
+    if (FAULT == 278) change_mark(1); /* one too few */
+    if (FAULT == 279) make_ring();    /* n-1 borders, to a point already reached */
+    for (e = 0; e < drawing.m; e++) {
+        if (FAULT == 280 && held[e] == 1) drawing.marks[e] = 1;                /* what was marked stays so */
+        if (FAULT == 281 && drawing.marks[e] == 0) drawing.marks[e] = held[e]; /* writes the ones only */
+        if (FAULT == 282 && drawing.marks[e] == 1) drawing.marks[e] = held[e]; /* writes the zeros only */
+        if (FAULT == 283 && drawing.marks[e] == 1) drawing.marks[e] = 2;       /* 2 for 1 */
+        if (FAULT == 284 && drawing.marks[e] == 1) drawing.marks[e] = 255;     /* 255 for 1 */
+        if (FAULT == 285) drawing.marks[e] = 1;                                /* marks every border */
+        if (FAULT == 286) drawing.marks[e] = held[e];                          /* writes nothing */
+    }
+}
+
+/* ---- finding marks: memory ---- */
+
+static void leave_work_of_marks(const struct lent *lent, uint16_t *work, uint8_t status)
+{
+    size_t entries = 6 * lent->marks_len;
+    if (FAULT == 287 && status == 2) clear(lent, work, entries); /* clears it with 2 */
+    if (FAULT == 288 && status == 3) clear(lent, work, entries); /* clears it with 3 */
+    if (status != 0 && status <= 3) return;
+    if (FAULT == 289 && status == 4) return;    /* leaves it as it was with 4 */
+    if (FAULT == 290 && status == 21) return;   /* leaves it as it was with 21 */
+    if (FAULT == 291 && status == 0) return;    /* leaves it as it was where the marks are written */
+    if (FAULT == 292 && entries > 0) entries--; /* clears one entry too few */
+    if (FAULT == 293) entries++;                /* clears one entry too many */
+    if (FAULT == 294) entries = lent->work_len; /* clears all of it */
+    clear(lent, work, entries);
+}
+
+/* What it writes though it declines, or what is not its to write. */
+static void write_marks_wrongly(const struct lent *lent, uint8_t *marks, uint8_t status)
+{
+    if (FAULT == 295 && status == 21) find_tree(), memcpy(marks, drawing.marks, drawing.m);                     /* the trees of the parts */
+    if (FAULT == 296 && (status == 3 || status == 4) && lent->marks_len > 0) memset(marks, 0, lent->marks_len); /* clears them first */
+    if (FAULT == 297 && (status == 1 || status == 2) && lent->marks_len > 0) marks[0] ^= 1;                     /* before it tests lengths */
+    if (FAULT == 298 && status == 0) marks[lent->marks_len] = 0;                                                /* one past their end */
+    if (FAULT == 299 && status == 0 && drawing.m > 1) ((uint16_t *)lent->turning)[0] ^= 1;                      /* the turning list */
+}
+
+uint8_t pmap_marks(const uint16_t *turning, size_t turning_len, uint8_t *marks, size_t marks_len, uint16_t *work,
+                   size_t work_len)
+{
+    struct lent lent = {turning, turning_len, marks, marks_len, 0, work_len, 0}, changed = lent;
+    uint8_t status;
+    change_lists(&changed);
+    if (FAULT == 300 && turning_len > 8) status = ((const volatile uint8_t *)turning)[2 * turning_len]; /* reads past the list */
+    status = changed_outcome(&changed, marks_refusal(&changed, &drawing));
+    leave_work_of_marks(&lent, work, status);
+    write_marks_wrongly(&lent, marks, status);
+    if (status != 0) return status;
+    find_tree();
+    change_tree();
+    if (drawing.m > 0) memcpy(marks, drawing.marks, drawing.m);
+    return 0;
 }
 
 /* ---- unpacking ---- */

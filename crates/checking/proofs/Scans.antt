@@ -86,7 +86,7 @@ module _ (ts ms : List ℕ) (s : ℕ) (F : LengthsFit (lent ts ms s)) where
 
   pub range-entries : (q : Bool) → Decides q (Ranged ts) → q ≡ false → false ≡ inRange (lent ts ms s)
   range-entries q d e =
-      decides-same (decides-no (λ I. decides-refutes d e (ranged-from ts ms s F I))) (range-decides (lent ts ms s))
+      decides-same (decides-no (λ I. decides-refutes d e (ranged-from ts ms s (F .half) (I .entries)))) (range-decides (lent ts ms s))
 
   pub range-marks : s < max (length ts) 1 → (q : Bool) → Decides q (Ranged ts) → q ≡ true
       → (r : Bool) → Decides r (Binary ms) → r ≡ inRange (lent ts ms s)

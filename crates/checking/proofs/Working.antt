@@ -2,14 +2,16 @@
 --
 -- kept-none, kept-set, kept-then == no store; a store before entry k; one change after another
 -- restored         == a list whose changed entries are made 0 again is as it was
--- once, twice      == a third, two thirds of the entries
+-- blank-cleared    == a list whose first entries were made 0 is blank
+-- cleared-again    == entries made 0 before and after
+-- once             == a third of the entries
 -- Assumes nothing.
 use mathlib.Core.Path.{_≡_, refl, sym, _∙_}
 use mathlib.Core.Logic.{inl, inr}
 use mathlib.Core.List.{List}
 use Prim.Native.Nat.{ℕ, _*_, _<_, _≤_}
 use native.Mathlib.Omega.{arith}
-use lib.ListN.{set, length-set}
+use lib.ListN.{length, set, length-set}
 use lib.Seq.{getD-set-other, ext-getD}
 use Rattle.count.proofs.Logic.{lt-or-ge}
 use Rattle.bits.specs.Writes.{cleared}
@@ -40,10 +42,21 @@ restored k j old w new l B K e =
       | inr g ↦ cleared-rest k w i g ∙ K .rest i g
     ])
 
+pub blank-cleared : (k : ℕ) (work u : List ℕ) → k ≤ length work → u ≡ cleared k work → Blank k u
+blank-cleared k work u l e =
+    rw e (record { room = omega (arith, cleared-length k work); zero = λ i j. cleared-first k work i j })
+
+-- what was cleared, changed only there, and cleared again
+pub cleared-again : (k : ℕ) (old v : List ℕ) → Kept k (cleared k old) v → cleared k v ≡ cleared k old
+cleared-again k old v K =
+    ext-getD 0 (cleared k v) (cleared k old) (cleared-length k v ∙ K .same-length)
+    (λ i l.
+    elim (lt-or-ge i k) [
+      | inl h ↦ cleared-first k v i h ∙ sym (cleared-first k old i h)
+      | inr g ↦ cleared-rest k v i g ∙ K .rest i g
+    ])
+
 pub once : (ends : ℕ) → ends ≤ 3 * ends
 once ends = omega arith
 
-pub twice : (ends : ℕ) → 2 * ends ≤ 3 * ends
-twice ends = omega arith
-
-pub ruleset restored-all = (restored, once, twice)
+pub ruleset restored-all = (restored, once)

@@ -1,7 +1,6 @@
 -- A drawing lent as slices, and the working list lent beside it.
 --
 -- next ts h        == entry h of the turning list
--- pointsIn ts      == how many points the turning list has
 -- Ranged ts        == every entry is below the list's length
 -- Binary ms        == every mark is 0 or 1
 -- Differ ts        == no two entries are equal
@@ -13,18 +12,11 @@ use mathlib.Core.Path.{_≡_}
 use mathlib.Core.Logic.{_≢_}
 use mathlib.Core.List.{List}
 use Prim.Native.Nat.{ℕ, _<_, _≤_}
-use lib.Dec.{eqb}
 use lib.ListN.{length, getD}
-use Rattle.count.specs.Below.{pick}
-use Rattle.orbits.specs.Cycles.{Permutes, cycles}
+use Rattle.orbits.specs.Cycles.{Permutes}
 
 abbrev pub next : List ℕ → ℕ → ℕ
 next ts h = getD ts h 0
-
--- 01: "A point is one cycle of that list. n is the number of points. With m = 0 there is one point."
-unfoldable pub pointsIn : List ℕ → ℕ
-unfolding cycles
-pointsIn ts = pick (eqb (length ts) 0) 1 (cycles (length ts) (next ts))
 
 pub record Ranged (ts : List ℕ) : Type 0 where
   pub below : (h : ℕ) → h < length ts → next ts h < length ts

@@ -1,4 +1,2 @@
 -- The checks of a lent drawing: what their contracts cite.
 pub mod Lent
-pub mod Flags
-pub mod Queue

@@ -29,11 +29,26 @@ pub fn in_range(turning: &[u16], marks: &[u8], start: usize) -> bool
     if larger(turning.len(), 1) <= start {
         return false;
     }
-    if entries_below(turning) {
+    if entries_fit(turning) {
         marks_fit(marks)
     } else {
         false
     }
+}
+
+// 3, of the entries alone: each is below the list's length.
+pub fn entries_fit(turning: &[u16]) -> bool
+    ensures { λ r. ⌜ Decides r (Ranged (now (turning .entry))) ⌝ }
+{
+    let ends = turning.len();
+    let mut h = 0;
+    while h < ends {
+        if ends <= wide(turning[h]) {
+            return false;
+        }
+        h += 1;
+    }
+    true
 }
 
 // How many borders are marked.
@@ -50,21 +65,6 @@ pub fn count_marks(marks: &[u8]) -> usize
         e += 1;
     }
     marked
-}
-
-// Whether every entry is below the list's length.
-fn entries_below(turning: &[u16]) -> bool
-    ensures { λ r. ⌜ Decides r (Ranged (now (turning .entry))) ⌝ }
-{
-    let ends = turning.len();
-    let mut h = 0;
-    while h < ends {
-        if ends <= wide(turning[h]) {
-            return false;
-        }
-        h += 1;
-    }
-    true
 }
 
 // Whether every mark is 0 or 1.

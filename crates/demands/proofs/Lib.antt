@@ -10,3 +10,4 @@ pub mod Cells
 pub mod Schedule
 pub mod Demands
 pub mod Neighbours
+pub mod Suggested

@@ -1,3 +1,4 @@
 -- The demands of document 01: what each theorem says.
 pub mod Statements
 pub mod Neighbours
+pub mod Suggested

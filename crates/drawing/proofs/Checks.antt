@@ -1,6 +1,6 @@
 -- The tests of checks 1, 3, 4 and 6 decide their propositions.
 --
--- lengths-decides, range-decides, distinct-decides, few-decides == as the names of the checks say
+-- lengths-decides, entries-decides, range-decides, distinct-decides, few-decides == as the names of the checks say
 -- Assumes nothing.
 use mathlib.Core.Path.{_≡_}
 use mathlib.Core.Bool.{Bool, not}
@@ -10,7 +10,7 @@ use lib.Dec.{eqb, ltb, leb}
 use Rattle.count.specs.Below.{Decides, all}
 use Rattle.count.proofs.Decides.{decides-eq, decides-le, decides-lt, decides-not, decides-both, decides-all, decides-as}
 use Rattle.drawing.specs.Drawing.{mostEnds, Drawing, Kind, borders, ends, turn, cells}
-use Rattle.drawing.specs.Checks.{LengthsFit, lengthsFit, InRange, inRange, Distinct, distinct, FewMarks, fewMarks, markCount}
+use Rattle.drawing.specs.Checks.{LengthsFit, lengthsFit, EntriesFit, entriesFit, InRange, inRange, Distinct, distinct, FewMarks, fewMarks, markCount}
 
 pub lengths-decides : (D : Drawing) → Decides (lengthsFit D) (LengthsFit D)
 unfolding lengthsFit
@@ -18,13 +18,18 @@ lengths-decides D =
     decides-as (λ t. record { half = t .0; most = t .1 }) (λ r. (r .half, r .most))
     (decides-both (decides-eq (length (D .turning)) (2 * length (D .marks))) (decides-le (length (D .turning)) mostEnds))
 
+pub entries-decides : (D : Drawing) → Decides (entriesFit D) (EntriesFit D)
+unfolding entriesFit
+entries-decides D =
+    decides-all (λ h. ltb (turn D h) (ends D)) (λ h. turn D h < ends D) (ends D) (λ h b. decides-lt (turn D h) (ends D))
+
 pub range-decides : (D : Drawing) → Decides (inRange D) (InRange D)
 unfolding inRange
 range-decides D =
     decides-as (λ t. record { entries = t .0 .0; start = t .0 .1; marks = t .1 }) (λ r. ((r .entries, r .start), r .marks))
     (decides-both
     (decides-both
-    (decides-all (λ h. ltb (turn D h) (ends D)) (λ h. turn D h < ends D) (ends D) (λ h b. decides-lt (turn D h) (ends D)))
+    (entries-decides D)
     (decides-lt (D .start) (max (ends D) 1)))
     (decides-all (λ e. leb (getD (D .marks) e 0) 1) (λ e. getD (D .marks) e 0 ≤ 1) (borders D) (λ e b. decides-le (getD (D .marks) e 0) 1)))
 

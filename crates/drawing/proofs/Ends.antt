@@ -8,7 +8,8 @@
 -- two-places         == where each end stands at one place, a border has two places and no third
 -- other-end          == the other end of an end is an end
 -- count-borders      == of the 2m ends, twice as many as of the m borders have a test of the border
--- turn-permutes      == entries in range and distinct: the turning list is a permutation
+-- entries-permute    == entries in range and distinct: the turning list is a permutation
+-- turn-permutes      == so where checks 3 and 4 are passed
 -- over-over, over-below, walk-permutes == crossing the borders of a set is an involution, and so each walk is a permutation
 -- end-zero, end-after == the tour begins at the start, and goes on by the tour's step
 -- Assumes nothing.
@@ -21,11 +22,11 @@ use native.Mathlib.Numerals.{add-one, sub-one}
 use lib.Dec.{eqb}
 use borrow.Author.Tests.{eq-eqb, ne-eqb}
 use Rattle.count.specs.Below.{pick, count}
-use Rattle.count.proofs.Logic.{same-or-not, lt-or-ge, pick-yes, pick-no, true-or-false}
+use Rattle.count.proofs.Logic.{same-or-not, pick-yes, pick-no, true-or-false}
 use Rattle.orbits.specs.Cycles.{Permutes}
-use Rattle.orbits.proofs.Iter.{iter-zero, iter-next, permutes-involution, permutes-compose}
+use Rattle.orbits.proofs.Iter.{iter-zero, iter-next, permutes-differ, permutes-involution, permutes-compose}
 use Rattle.drawing.specs.Drawing.{Drawing, borders, ends, border, other, turn, isMarked, over, walk, endAt}
-use Rattle.drawing.specs.Checks.{InRange, Distinct}
+use Rattle.drawing.specs.Checks.{EntriesFit, InRange, Distinct}
 
 -- by the last binary digit of h
 other-at-even : (h : ℕ) → h % 2 ≡ 0 → other h ≡ h + 1
@@ -140,20 +141,11 @@ count-borders S (suc m) =
     let rest = count-borders S m in
     rw (two, even, odd) (elim (true-or-false (S m)) [ inl t ↦ rw t (omega arith) | inr f ↦ rw f rest ])
 
+pub entries-permute : (D : Drawing) → EntriesFit D → Distinct D → Permutes (ends D) (turn D)
+entries-permute D f d = permutes-differ (ends D) (turn D) f (d .differ)
+
 pub turn-permutes : (D : Drawing) → InRange D → Distinct D → Permutes (ends D) (turn D)
-turn-permutes D r d =
-    record {
-      below = r .entries;
-      injective = λ x y bx by e.
-          elim (lt-or-ge x y) [
-            | inl l ↦ absurd (d .differ x y l by e)
-            | inr g ↦
-                elim (same-or-not y x) [
-                  | inl s ↦ sym s
-                  | inr n ↦ absurd (d .differ y x (omega arith) bx (sym e))
-                ]
-          ];
-    }
+turn-permutes D r d = entries-permute D (r .entries) d
 
 pub over-yes : (S : ℕ → Bool) (h : ℕ) → S (border h) ≡ true → over S h ≡ other h
 unfolding over

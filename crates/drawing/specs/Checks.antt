@@ -1,11 +1,14 @@
--- Checks 1 and 3 to 7 of packing (document 01, the table), each as a test beside the proposition that it decides. Check 2 is
--- about the memory lent, and stands with packing.
+-- Checks 1 and 3 to 7 of packing (document 01, the table) and 21 (document 02), each as a test beside the proposition that it
+-- decides. Check 2 is about the memory lent, and stands with packing.
 --
 -- LengthsFit, lengthsFit == passes 1: the turning list is twice as long as the marks, and at most 4,096
+-- EntriesFit, entriesFit == the entries are below 2m: what 3 asks where marks and start are not looked at
 -- InRange, inRange       == passes 3: entries and start are below 2m, marks are 0 or 1
 -- Distinct, distinct     == passes 4: no two entries are equal
--- Linked D g h           == from end g one comes to end h by turning and by crossing marked borders
--- Joined, joined         == passes 5: the marked borders join all points
+-- Linked D S g h         == from end g one comes to end h by turning and by crossing borders of the set S
+-- Joins, joins D S       == the borders of S join all points
+-- Joined, joined         == passes 5: the marked borders do
+-- Connected, connected   == passes 21: all borders do
 -- markCount D            == how many borders are marked
 -- FewMarks, fewMarks     == passes 6: at most n - 1 borders are marked
 -- Alternate D a b        == borders a and b come as a, b, a, b in the tour
@@ -21,6 +24,7 @@
 -- crossingIn T           == the borders at these two, the smaller first; nothing where none alternate
 -- firstCrossing D        == the pair that 7 carries, so found in the tour of D
 -- FindsFirst D           == `crosses` and `firstCrossing` are right
+-- PassesFour             == passes 1 to 4, marks and start not looked at
 -- PassesSix, PassesSeven == passes 1 to 6, 1 to 7
 -- Assumes nothing.
 use mathlib.Core.Path.{_≡_}
@@ -31,7 +35,7 @@ use Prim.Native.Nat.{ℕ, zero, suc, _*_, _<_, _≤_, min, max}
 use lib.ListN.{length, getD}
 use lib.Dec.{eqb, ltb, leb}
 use Rattle.count.specs.Below.{pick, count, all, any, find, table}
-use Rattle.drawing.specs.Drawing.{mostEnds, Drawing, Kind, borders, ends, border, other, turn, isMarked, cellOf, cells, endAt}
+use Rattle.drawing.specs.Drawing.{mostEnds, Drawing, Kind, borders, ends, border, other, turn, isMarked, everyBorder, cellOf, cells, endAt}
 
 -- 1: "turning list odd in length or over 4,096, or marks not half as long"
 pub record LengthsFit (D : Drawing) : Type 0 where
@@ -42,15 +46,22 @@ unfoldable pub lengthsFit : Drawing → Bool
 lengthsFit D = eqb (length (D .turning)) (2 * length (D .marks)) && leb (length (D .turning)) mostEnds
 
 -- 3: "entry or start not below 2m (m = 0: start not 0), or mark over 1"
+abbrev pub EntriesFit : Drawing → Type 0
+EntriesFit D = (h : ℕ) → h < ends D → turn D h < ends D
+
+unfoldable pub entriesFit : Drawing → Bool
+unfolding all turn ends
+entriesFit D = all (λ h. ltb (turn D h) (ends D)) (ends D)
+
 pub record InRange (D : Drawing) : Type 0 where
-  pub entries : (h : ℕ) → h < ends D → turn D h < ends D
+  pub entries : EntriesFit D
   pub start : D .start < max (ends D) 1
   pub marks : (e : ℕ) → e < borders D → getD (D .marks) e 0 ≤ 1
 
 unfoldable pub inRange : Drawing → Bool
-unfolding all turn ends borders
+unfolding entriesFit all ends borders
 inRange D =
-    all (λ h. ltb (turn D h) (ends D)) (ends D)
+    entriesFit D
     && ltb (D .start) (max (ends D) 1)
     && all (λ e. leb (getD (D .marks) e 0) 1) (borders D)
 
@@ -62,16 +73,23 @@ unfoldable pub distinct : Drawing → Bool
 unfolding all turn ends
 distinct D = all (λ j. all (λ i. not (eqb (turn D i) (turn D j))) j) (ends D)
 
--- 5: "marked borders don't join all points". From end g one comes to end h by turning about points and crossing marked borders.
-pub data Linked (D : Drawing) (g : ℕ) : ℕ → Type 0 where
-  here : Linked D g g
-  turned : (h : ℕ) → Linked D g h → Linked D g (turn D h)
-  crossing : (h : ℕ) → isMarked D (border h) ≡ true → Linked D g h → Linked D g (other h)
+-- 5: "marked borders don't join all points". 02, 7/14: "21 when some two points have no path of borders". One relation over a set S
+-- of borders: from end g one comes to end h by turning about points and crossing borders of S.
+pub data Linked (D : Drawing) (S : ℕ → Bool) (g : ℕ) : ℕ → Type 0 where
+  here : Linked D S g g
+  turned : (h : ℕ) → Linked D S g h → Linked D S g (turn D h)
+  crossing : (h : ℕ) → S (border h) ≡ true → Linked D S g h → Linked D S g (other h)
 
-pub record Joined (D : Drawing) : Type 0 where
-  pub link : (g h : ℕ) → g < ends D → h < ends D → Linked D g h
+pub record Joins (D : Drawing) (S : ℕ → Bool) : Type 0 where
+  pub link : (g h : ℕ) → g < ends D → h < ends D → Linked D S g h
 
--- The test gives each end its point for a label, and at each marked border makes the labels of its two ends one.
+abbrev pub Joined : Drawing → Type 0
+Joined D = Joins D (isMarked D)
+
+abbrev pub Connected : Drawing → Type 0
+Connected D = Joins D everyBorder
+
+-- The test gives each end its point for a label, and at each border of S makes the labels of its two ends one.
 abbrev pub relabel : ℕ → ℕ → List ℕ → List ℕ
 relabel a b ls = map (λ l. pick (eqb l a) b l) ls
 
@@ -80,18 +98,26 @@ mergeAt true e ls = relabel (getD ls (2 * e) 0) (getD ls (suc (2 * e)) 0) ls
 mergeAt false e ls = ls
 
 -- the labels after the first e borders
-unfoldable pub labels : Drawing → ℕ → List ℕ
-unfolding table cellOf ends isMarked
-labels D zero = table (cellOf D Kind.point) (ends D)
-labels D (suc e) = mergeAt (isMarked D e) e (labels D e)
+unfoldable pub labels : Drawing → (ℕ → Bool) → ℕ → List ℕ
+unfolding table cellOf ends
+labels D S zero = table (cellOf D Kind.point) (ends D)
+labels D S (suc e) = mergeAt (S e) e (labels D S e)
 
 abbrev pub allSame : List ℕ → Bool
 allSame [] = true
 allSame (l ∷ ls) = all (λ i. eqb (getD ls i 0) l) (length ls)
 
-unfoldable pub joined : Drawing → Bool
+unfoldable pub joins : Drawing → (ℕ → Bool) → Bool
 unfolding labels all borders
-joined D = allSame (labels D (borders D))
+joins D S = allSame (labels D S (borders D))
+
+unfoldable pub joined : Drawing → Bool
+unfolding joins isMarked
+joined D = joins D (isMarked D)
+
+unfoldable pub connected : Drawing → Bool
+unfolding joins
+connected D = joins D everyBorder
 
 -- 6: "they join all points and number more than n-1"
 unfoldable pub markCount : Drawing → ℕ
@@ -205,6 +231,11 @@ pub record FindsFirst (D : Drawing) : Type 0 where
   pub exists : (crosses D ≡ true) ↔ ((a : ℕ) × (b : ℕ) × Crossing D a b)
   pub first : (xs : List ℕ) → FirstCrossing D xs ↔ ((crosses D ≡ true) × (xs ≡ firstCrossing D))
   pub none : Flat D → firstCrossing D ≡ []
+
+pub record PassesFour (D : Drawing) : Type 0 where
+  pub lengths : LengthsFit D
+  pub range : EntriesFit D
+  pub entries : Distinct D
 
 pub record PassesSix (D : Drawing) : Type 0 where
   pub lengths : LengthsFit D

@@ -7,7 +7,9 @@
 -- other h          == the other end of h's border
 -- border h         == the border of end h
 -- turn D h         == the turning-list entry of end h: the next end counterclockwise about its point
+-- marked ms e      == whether the marks ms have border e in the spanning tree
 -- isMarked D e     == whether border e is of the spanning tree
+-- everyBorder e    == the set of all borders
 -- over S h         == h's other end if its border is in the set S, else h itself
 -- walk D S h       == the turning-list entry of `over S h`: cross if the border is in S, then turn
 -- Kind             == what a cell is: a point (vertex) or an area (face)
@@ -58,8 +60,14 @@ unfoldable pub turn : Drawing → ℕ → ℕ
 turn D h = getD (D .turning) h 0
 
 -- 01: "1 for a border of the spanning tree, else 0"
+abbrev pub marked : List ℕ → ℕ → Bool
+marked ms e = eqb (getD ms e 0) 1
+
 unfoldable pub isMarked : Drawing → ℕ → Bool
-isMarked D e = eqb (getD (D .marks) e 0) 1
+isMarked D e = marked (D .marks) e
+
+abbrev pub everyBorder : ℕ → Bool
+everyBorder e = true
 
 unfoldable pub over : (ℕ → Bool) → ℕ → ℕ
 unfolding border other

@@ -2,6 +2,7 @@
 pub mod Drawing
 pub mod Renumbered
 pub mod Checks
+pub mod Tree
 pub mod Session
 pub mod Laid
 pub mod Neighbours

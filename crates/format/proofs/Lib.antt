@@ -6,6 +6,7 @@ pub mod Parts
 pub mod Chain
 pub mod Passes
 pub mod Refusals
+pub mod Suggest
 pub mod Encode
 pub mod Longest
 pub mod OneForm

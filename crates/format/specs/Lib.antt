@@ -6,3 +6,4 @@ pub mod Open
 pub mod Calls
 pub mod Pack
 pub mod Before
+pub mod Suggest

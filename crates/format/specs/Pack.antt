@@ -9,6 +9,7 @@
 -- packRefusal D w o == the first of 1 to 7 that applies, with w entries of working list and o bytes of output lent; 0 where none does
 -- packCarries D k  == the numbers that packing's refusal k carries: the first crossing with 7
 -- packOf D w o     == packing: the map's bytes, or the refusal with what it carries
+-- workLeft k m old == the working list after refusal k, 0 where there is none
 -- opensBefore w p  == how many first places come before position p
 -- endIn w p        == the end that unpacking puts at position p
 -- positionIn w h   == the position at which end h stands
@@ -24,6 +25,7 @@ use Rattle.words.specs.Brackets.{step}
 use Rattle.words.specs.declared.family.Family.{Family}
 use Rattle.words.specs.declared.family.Family.the-variants.{Round as round, Square as square}
 use Rattle.words.specs.Word.{Letter, Word, seen, crossing}
+use Rattle.bits.specs.Writes.{cleared}
 use Rattle.drawing.specs.Drawing.{Drawing, Kind, borders, ends, border, isMarked, cells, endAt, isSecond}
 use Rattle.drawing.specs.Checks.{LengthsFit, lengthsFit, InRange, inRange, Distinct, distinct, Joined, joined, FewMarks, fewMarks, Flat, crosses, firstCrossing}
 use Rattle.drawing.specs.Session.{Answer, answer, refused}
@@ -82,6 +84,11 @@ unfolding packRefusal firstCrossing packedBytes
 packOf D work out =
     let k : ℕ = packRefusal D work out in
     afterRefusalWith k (packCarries D k) (answer (packedBytes D))
+
+-- 01: "Pack's working list, of 16-bit numbers, is untouched by 1 to 3. After any other outcome its first 6m entries are 0 and
+-- the rest untouched."
+abbrev pub workLeft : ℕ → ℕ → List ℕ → List ℕ
+workLeft k m old = pick (ltb 0 k && leb k 3) old (cleared (6 * m) old)
 
 -- 01: "Unpacking numbers borders by their first places. The first place is the even end, the start is 0."
 unfoldable pub opensBefore : Word → ℕ → ℕ

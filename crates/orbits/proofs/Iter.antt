@@ -6,12 +6,13 @@
 -- iter-cancel     == a walk that meets itself had come back to its start
 -- returns         == each number comes back to itself after at most n steps
 -- permutes-onto   == each number below n is reached by one step
+-- permutes-differ == values below n that differ are a permutation's
 -- permutes-involution == what undoes itself permutes
 -- permutes-compose == one permutation after another permutes
 -- permutes-agree, iter-agree == a function that agrees with a permutation below n permutes, and takes the same steps
 -- Assumes nothing.
 use mathlib.Core.Path.{_≡_, refl, sym, _∙_, ap}
-use mathlib.Core.Logic.{inl, inr}
+use mathlib.Core.Logic.{_≢_, inl, inr}
 use mathlib.Core.Bool.{Bool, true}
 use Prim.Native.Nat.{ℕ, zero, suc, _+_, _-_, _<_, _≤_}
 use native.Mathlib.Numerals.{add-one}
@@ -47,6 +48,21 @@ iter-commute f (suc k) x = ap f (iter-commute f k x)
 
 pub permutes-onto : {n : ℕ} {f : ℕ → ℕ} → Permutes n f → (y : ℕ) → y < n → (x : ℕ) × (x < n) × (f x ≡ y)
 permutes-onto {n} {f} p = injective-onto f n (p .below) (p .injective)
+
+pub permutes-differ : (n : ℕ) (f : ℕ → ℕ) → ((x : ℕ) → x < n → f x < n) → ((x y : ℕ) → x < y → y < n → f x ≢ f y) → Permutes n f
+permutes-differ n f b d =
+    record {
+      below = b;
+      injective = λ x y bx by e.
+          elim (lt-or-ge x y) [
+            | inl l ↦ absurd (d x y l by e)
+            | inr g ↦
+                elim (same-or-not y x) [
+                  | inl s ↦ sym s
+                  | inr n ↦ absurd (d y x (omega arith) bx (sym e))
+                ]
+          ];
+    }
 
 pub permutes-involution : (n : ℕ) (f : ℕ → ℕ) → ((x : ℕ) → x < n → f x < n) → ((x : ℕ) → x < n → f (f x) ≡ x) → Permutes n f
 permutes-involution n f b i = record { below = b; injective = λ x y l k e. sym (i x l) ∙ ap f e ∙ i y k }

@@ -2,7 +2,6 @@
 --
 -- later-4 .. later-none == the first of 4 to 7 that applies
 -- declines         == an answer by the number of a check
--- passes, fails    == what a test says that was computed and negated
 -- kept-same, kept-on == a working list that is as it was
 -- checked-4, checked-5, checked-6, checked-six == what the checks 4 to 6 found
 -- finish-pair, finish-none == what check 7 found
@@ -13,23 +12,25 @@ use mathlib.Core.Bool.{Bool, true, false, not}
 use mathlib.Core.List.{List, [], _∷_}
 use Prim.Native.Nat.{ℕ, suc, _<_, _≤_}
 use native.Mathlib.Omega.{arith}
-use borrow.Author.Tests.{not-true, not-false, le-ltb}
+use borrow.Author.Tests.{le-ltb}
 use lib.ListN.{length, getD}
-use Rattle.count.specs.Below.{Decides}
-use Rattle.count.proofs.Logic.{true-or-false}
+use Rattle.count.specs.Below.{Decides, pick}
+use Rattle.count.proofs.Logic.{true-or-false, pick-yes, pick-no}
 use Rattle.drawing.specs.Drawing.{Drawing, Kind, cells}
 use Rattle.drawing.specs.Checks.{LengthsFit, InRange, PassesSix, distinct, joined, fewMarks, crosses, firstCrossing, tourOf, crossingIn, markCount}
 use Rattle.drawing.specs.Session.{answer, refusedWith, refused}
 use Rattle.drawing.proofs.Checks.{distinct-decides, few-decides}
 use Rattle.drawing.proofs.Labels.{joined-decides}
+use Rattle.drawing.proofs.Cells.{cells-some}
 use Rattle.drawing.proofs.Crossing.{crossing-in-same, no-crossing, some-crossing}
 use Rattle.drawing.proofs.Ends.{turn-permutes}
 use Rattle.format.specs.Open.{afterRefusalWith}
 use Rattle.format.specs.Pack.{packedBytes, packCarries}
 use Rattle.format.proofs.Refusals.{carries-none}
 use Rattle.drawing.specs.Laid.{lent, laid}
-use Rattle.checking.specs.Lent.{pointsIn, Ranged, Differ, Turns, Kept}
-use Rattle.checking.proofs.Laws.{ranged-from, turns-from, distinct-is, points-are}
+use Rattle.checking.specs.Lent.{Ranged, Differ, Turns, Kept}
+use Rattle.checking.proofs.Decided.{passes, fails}
+use Rattle.checking.proofs.Laws.{ranged-from, turns-from, distinct-is}
 use Rattle.packing.specs.declared.answers.Packed.the-variants as the-case
 use Rattle.crossing.specs.declared.find.Found.{Found}
 use Rattle.crossing.specs.declared.find.Found.the-variants as the-found
@@ -72,14 +73,6 @@ module _ (D : Drawing) where
       let a : laterOf D ≡ refused (suc k) = later-is (suc k) e ∙ ap (refusedWith (suc k)) (carries-none D (suc k) (omega arith)) in
       record { answers = sym (ap lengthOf a); output = sym (ap (λ x. written x old) a) }
 
--- a test r that was computed, and the test t that it computes
-module _ (r t : Bool) (e : r ≡ t) where
-  pub passes : not r ≡ false → t ≡ true
-  passes h = sym e ∙ not-false r h
-
-  pub fails : not r ≡ true → t ≡ false
-  fails h = sym e ∙ not-true r h
-
 pub kept-same : (k : ℕ) (old new : List ℕ) → new ≡ old → Kept k old new
 kept-same k old new e = record { same-length = ap length e; rest = λ i h. ap (λ l. getD l i 0) e }
 
@@ -92,7 +85,7 @@ module _ (ts ms : List ℕ) (s : ℕ) (F : LengthsFit (lent ts ms s)) (I : InRan
   D = lent ts ms s
 
   pub checked-ranged : Ranged ts
-  checked-ranged = ranged-from ts ms s F I
+  checked-ranged = ranged-from ts ms s (F .half) (I .entries)
 
   module _ (r : Bool) (p : Decides r (Differ ts)) where
     pub checked-4 : not r ≡ true → (old : List ℕ) → PacksLater (lent ts ms s) (packedMeans (the-case.Declined 4)) old old
@@ -103,18 +96,30 @@ module _ (ts ms : List ℕ) (s : ℕ) (F : LengthsFit (lent ts ms s)) (I : InRan
       differ = passes r (distinct D) (distinct-is ts ms s (F .half) r p) h
 
       pub checked-turns : Turns ts
-      checked-turns = turns-from ts ms s F I (distinct-decides D .sound differ)
+      checked-turns = turns-from ts ms s (F .half) (I .entries) (distinct-decides D .sound differ)
 
-      module _ (q : Bool) (j : (s : ℕ) → q ≡ joined (lent ts ms s)) where
-        pub checked-5 : not q ≡ true → (old : List ℕ) → PacksLater (lent ts ms s) (packedMeans (the-case.Declined 5)) old old
-        checked-5 k old = declines D 4 old (omega arith) (later-5 D differ (fails q (joined D) (j s) k))
+      module _ (n : ℕ) (N : (s : ℕ) → n ≡ pick (joined (lent ts ms s)) (cells (lent ts ms s) Kind.point) 0) where
+        -- there is a point in any case
+        joins-not : n ≡ 0 → joined D ≡ false
+        joins-not z =
+            elim (true-or-false (joined D)) [
+              | inl t ↦ absurd (omega (arith, N s ∙ pick-yes (joined D) (cells D Kind.point) 0 t, cells-some D Kind.point))
+              | inr f ↦ f
+            ]
 
-        module _ (k : not q ≡ false) (n : ℕ) (N : n ≡ pointsIn ts) (m : ℕ) (M : (ts : List ℕ) (s : ℕ) → m ≡ markCount (lent ts ms s)) where
+        pub checked-5 : n ≡ 0 → (old : List ℕ) → PacksLater (lent ts ms s) (packedMeans (the-case.Declined 5)) old old
+        checked-5 z old = declines D 4 old (omega arith) (later-5 D differ (joins-not z))
+
+        module _ (k : n ≡ 0 → ⊥) (m : ℕ) (M : (ts : List ℕ) (s : ℕ) → m ≡ markCount (lent ts ms s)) where
           joins : joined D ≡ true
-          joins = passes q (joined D) (j s) k
+          joins =
+              elim (true-or-false (joined D)) [
+                | inl t ↦ t
+                | inr f ↦ absurd (k (N s ∙ pick-no (joined D) (cells D Kind.point) 0 f))
+              ]
 
           pub checked-points : n ≡ cells (lent ts ms s) Kind.point
-          checked-points = N ∙ points-are ts ms s (F .half)
+          checked-points = N s ∙ pick-yes (joined D) (cells D Kind.point) 0 joins
 
           pub checked-6 : n ≤ m → (old : List ℕ) → PacksLater (lent ts ms s) (packedMeans (the-case.Declined 6)) old old
           unfolding fewMarks

@@ -3,9 +3,8 @@
 -- first-1 .. first-later == the first refusal of all
 -- early            == an answer by the number of one of checks 1 to 3
 -- pack-1, pack-long, pack-short, pack-3 == the first of 1 to 3 that applies
--- pack-lengths, pack-fits, pack-range, pack-blank == none does, and checks 4 to 7 may begin
+-- pack-range       == check 3 passed
 -- pack-done        == their answer is packing's
--- cleared-again    == the working list made 0 before and after
 -- Assumes nothing.
 use mathlib.Core.Path.{_≡_, refl, sym, ap, _∙_}
 use mathlib.Core.Logic.{inl, inr}
@@ -22,20 +21,20 @@ use mir.Val.{Fits}
 use Rattle.count.specs.Below.{pick}
 use Rattle.count.proofs.Logic.{lt-or-ge}
 use Rattle.bits.specs.Writes.{cleared}
-use Rattle.bits.proofs.Stores.{cleared-length, cleared-first, cleared-rest}
 use Rattle.drawing.specs.Drawing.{Drawing, borders}
 use Rattle.drawing.specs.Checks.{LengthsFit, InRange, lengthsFit, inRange, distinct, joined, fewMarks, crosses}
 use Rattle.drawing.specs.Session.{Answer, answer, refusedWith, refused}
 use Rattle.drawing.proofs.Checks.{lengths-decides, range-decides}
 use Rattle.format.specs.Bytes.{longest}
 use Rattle.format.specs.Open.{unless, afterRefusalWith}
-use Rattle.format.specs.Pack.{packedBytes, packRefusal, packCarries, packOf}
+use Rattle.format.specs.Pack.{packedBytes, packRefusal, packCarries, packOf, workLeft}
 use Rattle.format.proofs.Refusals.{carries-none}
 use Rattle.drawing.specs.Laid.{lent}
 use Rattle.checking.specs.Lent.{Blank, Kept}
 use Rattle.packing.specs.declared.answers.Packed.the-variants as the-case
-use Rattle.packing.specs.Answers.{packedMeans, lengthOf, written, workLeft, laterRefusal, laterOf, Packs, PacksLater}
-use Rattle.packing.proofs.Later.{passes, fails}
+use Rattle.packing.specs.Answers.{packedMeans, lengthOf, written, laterRefusal, laterOf, Packs, PacksLater}
+use Rattle.checking.proofs.Decided.{passes, fails}
+use Rattle.checking.proofs.Working.{cleared-again}
 
 module _ (D : Drawing) (w o : ℕ) where
   first-1 : lengthsFit D ≡ false → packRefusal D w o ≡ 1
@@ -89,34 +88,8 @@ late-left : (D : Drawing) (m : ℕ) (work : List ℕ) → workLeft (laterRefusal
 unfolding laterRefusal
 late-left D m work = ap (λ t. pick t work (cleared (6 * m) work)) (late-number (distinct D) (joined D) (fewMarks D) (not (crosses D)))
 
--- what was cleared, changed only there, and cleared again
-cleared-again : (k : ℕ) (old v : List ℕ) → Kept k (cleared k old) v → cleared k v ≡ cleared k old
-cleared-again k old v K =
-    ext-getD 0 (cleared k v) (cleared k old) (cleared-length k v ∙ K .same-length)
-    (λ i l.
-    elim (lt-or-ge i k) [
-      | inl h ↦ cleared-first k v i h ∙ sym (cleared-first k old i h)
-      | inr g ↦ cleared-rest k v i g ∙ K .rest i g
-    ])
-
-module _ (ts ms : List ℕ) (r : Bool) (p : (s : ℕ) → r ≡ lengthsFit (lent ts ms s)) (h : not r ≡ false) where
-  pub pack-lengths : (s : ℕ) → LengthsFit (lent ts ms s)
-  pack-lengths s = lengths-decides (lent ts ms s) .sound (passes r (lengthsFit (lent ts ms s)) (p s) h)
-
-  pub pack-fits : Fits w64 (6 * length ms)
-  pack-fits = record { fits = omega (arith, pack-lengths 0 .half, pack-lengths 0 .most) }
-
-  pub pack-range : (s : ℕ) (q : Bool) → q ≡ inRange (lent ts ms s) → not q ≡ false → InRange (lent ts ms s)
-  pack-range s q g b = range-decides (lent ts ms s) .sound (passes q (inRange (lent ts ms s)) g b)
-
-  pub pack-blank : (work u : List ℕ) → 6 * length ms ≤ length work → u ≡ cleared (6 * length ms) work → Blank (3 * length ts) u
-  pack-blank work u l e =
-      let f : length ts ≡ 2 * length ms = pack-lengths 0 .half in
-      rw e
-      (record {
-        room = omega (arith, cleared-length (6 * length ms) work);
-        zero = λ i j. cleared-first (6 * length ms) work i (omega arith);
-      })
+pub pack-range : (ts ms : List ℕ) (s : ℕ) (q : Bool) → q ≡ inRange (lent ts ms s) → not q ≡ false → InRange (lent ts ms s)
+pack-range ts ms s q g b = range-decides (lent ts ms s) .sound (passes q (inRange (lent ts ms s)) g b)
 
 module _ (ts ms : List ℕ) (s : ℕ) (old work : List ℕ) where
   abbrev E : Drawing

@@ -3,7 +3,6 @@
 -- packedMeans r    == the answer that the case r stands for: the map's length, or document 01's number with what it carries
 -- lengthOf a       == the answer with the length in place of the bytes
 -- written a old    == the output after the answer a
--- workLeft k m old == the working list after refusal k, 0 where there is none
 -- PackLeaves D work work' out out' == packing the drawing D makes work' of the working list and out' of the output
 -- Packs D work work' out out' p == and p is what it answers
 -- laterRefusal D   == the first of 4 to 7 that applies; 0 where none does
@@ -11,19 +10,16 @@
 -- PacksLater D p old new == p is the answer then, and the output old becomes new
 -- Assumes nothing.
 use mathlib.Core.Path.{_≡_}
-use mathlib.Core.Bool.{not, _&&_}
+use mathlib.Core.Bool.{not}
 use mathlib.Core.List.{List, [], _∷_}
-use Prim.Native.Nat.{ℕ, _*_}
-use lib.Dec.{ltb, leb}
+use Prim.Native.Nat.{ℕ}
 use lib.ListN.{length}
-use Rattle.count.specs.Below.{pick}
-use Rattle.bits.specs.Writes.{cleared}
 use Rattle.drawing.specs.Drawing.{Drawing, borders}
 use Rattle.drawing.specs.Checks.{distinct, joined, fewMarks, crosses, firstCrossing}
 use Rattle.drawing.specs.Session.{Answer, answer, refusedWith, refused}
 use Rattle.drawing.specs.Laid.{laid}
 use Rattle.format.specs.Open.{unless, afterRefusalWith}
-use Rattle.format.specs.Pack.{packedBytes, packRefusal, packCarries, packOf}
+use Rattle.format.specs.Pack.{packedBytes, packRefusal, packCarries, packOf, workLeft}
 use Rattle.packing.specs.declared.answers.Packed.{Packed}
 use Rattle.packing.specs.declared.answers.Packed.the-variants as the-case
 
@@ -41,11 +37,6 @@ lengthOf (refusedWith k xs) = refusedWith k xs
 abbrev pub written : Answer (List ℕ) → List ℕ → List ℕ
 written (answer s) old = laid s old
 written (refusedWith k xs) old = old
-
--- 01: "Pack's working list, of 16-bit numbers, is untouched by 1 to 3. After any other outcome its first 6m entries are 0 and
--- the rest untouched."
-abbrev pub workLeft : ℕ → ℕ → List ℕ → List ℕ
-workLeft k m old = pick (ltb 0 k && leb k 3) old (cleared (6 * m) old)
 
 pub record PackLeaves (D : Drawing) (work work' out out' : List ℕ) : Type 0 where
   pub working : work' ≡ workLeft (packRefusal D (length work) (length out)) (borders D) work

@@ -49,10 +49,10 @@ fn checked(turning: &[u16], marks: &[u8], start: usize, work: &mut [u16], out: &
     if !checking::is_distinct(turning, work) {
         return Packed::Declined(4);
     }
-    if !checking::is_joined(turning, marks, work) {
+    let n = reaching::joined_points(turning, marks, work);
+    if n == 0 {
         return Packed::Declined(5);
     }
-    let n = checking::count_points(turning, work);
     if n <= checking::count_marks(marks) {
         return Packed::Declined(6);
     }

@@ -6,8 +6,8 @@
 // `lent` of the crate `drawing`. The working list has three thirds of 2m entries. It is used after
 // check 3 and left with its first 6m entries 0. The output is touched only where every check passed.
 //
-// Check 2 is here, 1 and 3 to 6 are in the crate `checking`, 7 is in `crossing`, the tour in `touring`,
-// the bytes in `writing`. The definitions that the contracts
+// Check 2 is here, 1, 3 and 4 are in the crate `checking`, 5 and the points for 6 in `reaching`, 7 is in `crossing`,
+// the tour in `touring`, the bytes in `writing`. The definitions that the contracts
 // cite are in specs/ and in the crates `drawing` and `format`.
 mod answers;
 mod checks;

@@ -1,13 +1,24 @@
-// Packing and unpacking, with the drawing lent as lists.
+// Finding marks, packing and unpacking, with the drawing lent as lists.
 use giving::give_borders;
 use giving::give_length;
 ghost use mathlib.Core.Path.{_≡_};
+ghost use Prim.Native.Nat.{ℕ};
 ghost use lib.ListN.{length as size};
 ghost use Rattle.drawing.specs.Session.{numberOf};
 ghost use Rattle.drawing.specs.Laid.{lent, bordersOf, turningAfter, marksAfter};
 ghost use Rattle.format.specs.Pack.{unpackOf};
+ghost use Rattle.format.specs.Suggest.{Suggests};
 ghost use Rattle.giving.specs.Cells.{cellAfter};
 ghost use Rattle.giving.specs.Desk.{PackReturns};
+
+// Marks of a spanning tree go to `marks`.
+#[no_mangle]
+pub extern "C" fn pmap_marks(turning: &[u16], marks: &mut [u8], work: &mut [u16]) -> u8
+    ensures { λ r. ⌜ ((s : ℕ) → Suggests (lent (now (turning .entry)) (now (marks .entry)) s)
+        (now (work .entry)) (now (work .exit)) (now (marks .exit)) r) ⌝ }
+{
+    suggesting::suggest(turning, marks, work)
+}
 
 // The map of a drawing goes to `out`, its length to a cell. With 7 the pair stands in the bits above the status.
 #[no_mangle]

@@ -8,17 +8,18 @@
 //     pmap_factor                                            of an area, by its insurer's lists
 //     pmap_joining                                           the joining border of two points
 //     pmap_session                                           a list of calls in one: moves, points and areas
+//     pmap_marks                                             marks of a spanning tree, for a drawing that has none
 //     pmap_pack, pmap_unpack                                 from a drawing to a map, and back
 //
 // Conventions. Each function returns a status: 0, or the number of the check that declines. The answer goes to
-// cells and lists that the host lends, and a call that declines leaves them as they were. Only the working list of
-// pmap_pack is cleared by most refusals too, and only pmap_pack returns more than a status: the pair of borders
-// that 7 carries. Numbers come in as usize, so that nothing is cut: place 65,537 is declined, not taken for 1. No
+// cells and lists that the host lends, and a call that declines leaves them as they were. Only the working lists of
+// pmap_marks and pmap_pack are cleared by most refusals too, and only pmap_pack returns more than a status: the pair
+// of borders that 7 carries. Numbers come in as usize, so that nothing is cut: place 65,537 is declined, not taken for 1. No
 // function asks anything of its caller.
 //
-// The functions only pass on what the crates `opening`, `map`, `rating`, `running`, `packing` and `unpacking` answer. The
-// definitions that the contracts cite are those of the crates `format` and `tariff`, with `running`, `packing` and `unpacking`
-// for the lists that are lent to them; the crate `giving` says what a cell holds after a call, and what pmap_pack returns.
+// The functions only pass on what the crates `opening`, `map`, `rating`, `running`, `suggesting`, `packing` and `unpacking`
+// answer. The definitions that the contracts cite are those of the crates `format` and `tariff`, with `running`, `packing` and
+// `unpacking` for the lists that are lent to them; the crate `giving` says what a cell holds after a call, and what pmap_pack returns.
 mod areas;
 mod desk;
 mod places;
@@ -30,6 +31,7 @@ pub use areas::pmap_area_first;
 pub use areas::pmap_factor;
 pub use areas::pmap_neighbours;
 pub use areas::pmap_sides;
+pub use desk::pmap_marks;
 pub use desk::pmap_pack;
 pub use desk::pmap_unpack;
 pub use places::pmap_along;

@@ -37,13 +37,13 @@ use Rattle.roundtrip.proofs.Ends.{end-in-closes, border-pairs, position
 use Rattle.roundtrip.proofs.Drawing.{drawing-half, drawing-ends, drawing-borders, drawing-marked, drawing-tour, drawing-meets, drawing-permutes, drawing-cells}
 
 module _ (D : Drawing) where
-  linked-over : (g h : ℕ) → Linked D g h → Linked D g (over (isMarked D) h)
+  linked-over : (g h : ℕ) → Linked D (isMarked D) g h → Linked D (isMarked D) g (over (isMarked D) h)
   linked-over g h k = ⊎-elim
       (λ t. rw (over-yes (isMarked D) h t) (across h t k))
       (λ f. rw (over-no (isMarked D) h f) k)
       (true-or-false (isMarked D (border h)))
 
-  linked-walk : (g h : ℕ) → Linked D g h → Linked D g (walk D (isMarked D) h)
+  linked-walk : (g h : ℕ) → Linked D (isMarked D) g h → Linked D (isMarked D) g (walk D (isMarked D) h)
   unfolding walk
   linked-walk g h k = turned (over (isMarked D) h) (linked-over g h k)
 
@@ -56,7 +56,7 @@ module _ (D : Drawing) where
       record {
         link = λ g h l k.
             let s : D .start < ends D = meets .end-below 0 (omega arith) in
-            same-cycle-induct W (Linked D g) g h (λ z b. linked-walk g z) l here
+            same-cycle-induct W (Linked D (isMarked D) g) g h (λ z b. linked-walk g z) l here
             (same-cycle-trans (same-cycle-sym W s (reached g l)) (reached h k));
       }
 

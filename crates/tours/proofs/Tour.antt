@@ -35,26 +35,26 @@ abbrev pub marksBelow : Drawing → ℕ → ℕ → Bool
 marksBelow D e = upTo (λ i. false) (isMarked D) e
 
 module _ (D : Drawing) (p : Permutes (ends D) (turn D)) where
-  pub label-along : (e h : ℕ) → h < ends D → label D e (turn D (over (marksBelow D e) h)) ≡ label D e h
+  pub label-along : (e h : ℕ) → h < ends D → label D (isMarked D) e (turn D (over (marksBelow D e) h)) ≡ label D (isMarked D) e h
   unfolding ends
   label-along e h b =
       let T : ℕ → Bool = marksBelow D e in
-      label-turn D p e (over T h) (over-below T (borders D) h b)
+      label-turn D (isMarked D) p e (over T h) (over-below T (borders D) h b)
       ∙ elim (true-or-false (T (border h))) [
         | inl t ↦
             elim (lt-or-ge (border h) e) [
               | inl k ↦
-                  ap (label D e) (over-yes T h t)
-                  ∙ label-crosses D e h b k (sym (up-to-below (λ i. false) (isMarked D) e (border h) k) ∙ t)
-              | inr g ↦ ap (label D e) (over-no T h (up-to-from (λ i. false) (isMarked D) e (border h) g))
+                  ap (label D (isMarked D) e) (over-yes T h t)
+                  ∙ label-crosses D (isMarked D) e h b k (sym (up-to-below (λ i. false) (isMarked D) e (border h) k) ∙ t)
+              | inr g ↦ ap (label D (isMarked D) e) (over-no T h (up-to-from (λ i. false) (isMarked D) e (border h) g))
             ]
-        | inr t ↦ ap (label D e) (over-no T h t)
+        | inr t ↦ ap (label D (isMarked D) e) (over-no T h t)
       ]
 
-  pub label-cycle : (e g h : ℕ) → g < ends D → SameCycle (λ x. turn D (over (marksBelow D e) x)) g h → label D e h ≡ label D e g
+  pub label-cycle : (e g h : ℕ) → g < ends D → SameCycle (λ x. turn D (over (marksBelow D e) x)) g h → label D (isMarked D) e h ≡ label D (isMarked D) e g
   unfolding ends
   label-cycle e g h b s =
-      same-cycle-induct (over-permutes (borders D) (turn D) (marksBelow D e) p) (λ x. label D e x ≡ label D e g) g h
+      same-cycle-induct (over-permutes (borders D) (turn D) (marksBelow D e) p) (λ x. label D (isMarked D) e x ≡ label D (isMarked D) e g) g h
       (λ x bx q. label-along e x bx ∙ q) b refl s
 
 added-all : (t : Bool) → t && not false ≡ t

@@ -11,8 +11,8 @@ larger-requires c κs = search needs
 returns : tie.Need-returns
 returns c = range-start _ _ _ (c .before .before .before .before .pre) (omega (arith, c .before .larger .ensures, c .if1 .taken))
 
-entries-below-requires : tie.Need-entries-below-requires
-entries-below-requires c κs = search needs
+entries-fit-requires : tie.Need-entries-fit-requires
+entries-fit-requires c κs = search needs
 
 marks-fit-requires : tie.Need-marks-fit-requires
 marks-fit-requires c κs = search needs
@@ -21,12 +21,12 @@ returns-2 : tie.Need-returns-2
 returns-2 c =
     let e = c .before .before in
     let t = e .before in
-    range-marks _ _ _ (t .before .before .before .before .pre) (omega (arith, t .before .larger .ensures, t .if1 .left)) _ (e .entries-below .ensures) (c .before .if2 .taken) _ (c .marks-fit .ensures)
+    range-marks _ _ _ (t .before .before .before .before .pre) (omega (arith, t .before .larger .ensures, t .if1 .left)) _ (e .entries-fit .ensures) (c .before .if2 .taken) _ (c .marks-fit .ensures)
 
 returns-3 : tie.Need-returns-3
 returns-3 c =
     let e = c .before in
-    range-entries _ _ _ (e .before .before .before .before .before .pre) _ (e .entries-below .ensures) (c .if2 .left)
+    range-entries _ _ _ (e .before .before .before .before .before .pre) _ (e .entries-fit .ensures) (c .if2 .left)
 
 pub in-range-spec : {M : Type 1} → statement M
 in-range-spec =
@@ -34,7 +34,7 @@ in-range-spec =
     (tie.spec
     larger-requires
     returns
-    entries-below-requires
+    entries-fit-requires
     marks-fit-requires
     returns-2
     returns-3)

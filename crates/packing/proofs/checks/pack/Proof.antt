@@ -1,6 +1,7 @@
 -- `packing::checks::pack` meets its contract. Assumes nothing.
 use borrow.Author.Needs.{needs}
-use Rattle.packing.proofs.Order.{pack-1, pack-fits, pack-lengths, pack-long, pack-short, pack-3, pack-range, pack-blank, pack-done}
+use Rattle.checking.proofs.Laws.{lengths-passed, work-fits, work-blank}
+use Rattle.packing.proofs.Order.{pack-1, pack-long, pack-short, pack-3, pack-range, pack-done}
 use Rattle.packing.proofs.checks.pack.Statement.{statement}
 use Rattle.packing.proofs.checks.pack.Tie as tie
 
@@ -11,7 +12,7 @@ returns : tie.Need-returns
 returns c = pack-1 _ _ _ _ _ _ (c .before .lengths-fit .ensures) (c .if1 .taken)
 
 mul-k : tie.Need-mul-k
-mul-k c = pack-fits _ _ _ (c .before .lengths-fit .ensures) (c .if1 .left)
+mul-k c = work-fits _ _ _ (c .before .lengths-fit .ensures) (c .if1 .left)
 
 returns-2 : tie.Need-returns-2
 returns-2 c = pack-long _ _ _ _ _ _ (c .before .before .lengths-fit .ensures) (c .before .if1 .left) (c .if2 .taken)
@@ -20,7 +21,7 @@ returns-3 : tie.Need-returns-3
 returns-3 c = pack-short _ _ _ _ _ _ (c .before .before .before .lengths-fit .ensures) (c .before .before .if1 .left) (c .before .if2 .left) (c .if3 .taken)
 
 in-range-requires : tie.Need-in-range-requires
-in-range-requires c κs = pack-lengths _ _ _ (c .before .before .before .lengths-fit .ensures) (c .before .before .if1 .left) _
+in-range-requires c κs = lengths-passed _ _ _ (c .before .before .before .lengths-fit .ensures) (c .before .before .if1 .left) _
 
 returns-4 : tie.Need-returns-4
 returns-4 c =
@@ -38,9 +39,9 @@ checked-requires c κs =
     let w = e .before .before .before .if2 .left in
     let o = e .before .before .if3 .left in
     let g = e .before .in-range .ensures in (
-      pack-lengths _ _ _ l a _,
-      pack-range _ _ _ l a _ _ g (e .if4 .left),
-      pack-blank _ _ _ l a _ _ w (c .before .before .before .before .clear .ensures),
+      lengths-passed _ _ _ l a _,
+      pack-range _ _ _ _ g (e .if4 .left),
+      work-blank _ _ _ l a _ _ w (c .before .before .before .before .clear .ensures),
       o,
     )
 

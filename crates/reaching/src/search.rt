@@ -1,0 +1,121 @@
+// The search: point after point, over the borders of a set. The first third of the working list flags the ends reached, the
+// second queues them, the last notes the borders across which a point was first reached.
+use checking::other;
+ghost use mathlib.Core.Path.{_≡_};
+ghost use Prim.Native.Nat.{ℕ, _*_, _<_};
+ghost use lib.ListN.{length};
+ghost use Rattle.checking.specs.Lent.{Turns, Blank, Kept};
+ghost use Rattle.reaching.specs.Queue.{IsFlagged, Queued, Whole, Gathered};
+ghost use Rattle.reaching.specs.Reaching.{allowed, Reached, Crossed, Spread};
+
+// The borders that may be crossed.
+pub enum Borders {
+    Marked,
+    Every,
+}
+
+// How many ends are reached, and how many points.
+pub struct Reach {
+    pub ends: usize,
+    pub points: usize,
+}
+
+// The search from end 0. Without borders there is one point, and no end.
+pub fn spread(turning: &[u16], which: Borders, marks: &[u8], work: &mut [u16]) -> Reach
+    requires { ⌜ Turns (now turning)
+        × (length (now turning) ≡ 2 * length (now marks))
+        × Blank (3 * length (now turning)) (now work) ⌝ }
+    ensures { λ r. ⌜ ((s : ℕ) → Spread (now (turning .entry)) (now (marks .entry)) s (allowed which (now (marks .entry)))
+        (now (work .exit)) (r .ends) (r .points)) ⌝ }
+    ensures { λ _. ⌜ Kept (3 * length (now (turning .entry))) (now (work .entry)) (now (work .exit)) ⌝ }
+{
+    let ends = turning.len();
+    if ends == 0 {
+        return Reach { ends: 0, points: 1 };
+    }
+    let mut tail = gather(turning, work, 0, 0);
+    let mut points: usize = 1;
+    let mut head = 0;
+    while head < tail {
+        let h = work[ends + head];
+        let reached = cross(turning, which, marks, work, tail, points, h);
+        tail = reached.ends;
+        points = reached.points;
+        head += 1;
+    }
+    Reach {
+        ends: tail,
+        points: points,
+    }
+}
+
+// Looks across the border of end h. If that leads to a point that was not reached before, its ends are queued.
+fn cross(
+    turning: &[u16],
+    which: Borders,
+    marks: &[u8],
+    work: &mut [u16],
+    tail: usize,
+    points: usize,
+    h: u16,
+) -> Reach
+    requires { ⌜ Turns (now turning)
+        × (length (now turning) ≡ 2 * length (now marks))
+        × (h < length (now turning))
+        × IsFlagged (now work) h
+        × Reached (now turning) (now marks) (allowed which (now marks)) (now work) tail points ⌝ }
+    ensures { λ r. ⌜ Crossed (now (turning .entry)) (now (marks .entry)) (allowed which (now (marks .entry))) h
+        (now (work .entry)) tail (now (work .exit)) (r .ends) (r .points) ⌝ }
+{
+    let e = h as usize / 2;
+    if !may_cross(which, marks, e) {
+        return Reach {
+            ends: tail,
+            points: points,
+        };
+    }
+    let beyond = other(h);
+    if work[beyond as usize] != 0 {
+        return Reach {
+            ends: tail,
+            points: points,
+        };
+    }
+    work[2 * turning.len() + e] = 1;
+    Reach {
+        ends: gather(turning, work, tail, beyond),
+        points: points + 1,
+    }
+}
+
+// Whether border e may be crossed. The marks are looked at only where they say so.
+fn may_cross(which: Borders, marks: &[u8], e: usize) -> bool
+    requires { ⌜ e < length (now marks) ⌝ }
+    ensures { λ r. ⌜ r ≡ allowed which (now (marks .entry)) e ⌝ }
+{
+    match which {
+        Borders::Marked => marks[e] == 1,
+        Borders::Every => true,
+    }
+}
+
+// Flags and queues the ends of h's point, unless they are flagged already. The new length of the queue.
+fn gather(turning: &[u16], work: &mut [u16], tail: usize, h: u16) -> usize
+    requires { ⌜ Turns (now turning)
+        × (h < length (now turning))
+        × Queued (length (now turning)) (now work) tail
+        × Whole (now turning) (now work) ⌝ }
+    ensures { λ r. ⌜ Gathered (now (turning .entry)) h (now (work .entry)) tail (now (work .exit)) r ⌝ }
+{
+    let ends = turning.len();
+    let mut end = tail;
+    let mut at = h;
+    while work[at as usize] == 0 {
+        let i = at as usize;
+        work[i] = 1;
+        work[ends + end] = at;
+        end += 1;
+        at = turning[i];
+    }
+    end
+}

@@ -1,0 +1,2 @@
+-- Finding marks: the laws.
+pub mod Order

@@ -1,0 +1,2 @@
+-- Finding marks: what the contracts within the crate cite.
+pub mod Later
