@@ -4,9 +4,8 @@
 -- connected-tree   == a drawing that passes 1 to 4 is connected exactly if some marks join all points with n - 1 borders
 -- marks-decline    == when the call declines: in order, whatever marks and start are, with 21 exactly where there is no tree
 -- Assumes nothing.
-use mathlib.Core.Path.{_≡_, refl, sym}
+use mathlib.Core.Path.{refl, sym}
 use mathlib.Core.Logic.{inl, inr}
-use mathlib.Core.Bool.{true, false}
 use mathlib.Core.List.{List}
 use Prim.Native.Nat.{ℕ, _<_, max}
 use lib.ListN.{length}

@@ -1,11 +1,11 @@
--- Drawings on one point by computation: the tour's length alone does not show a tree, which crossing is the first, and in which
--- order the areas across the sides are met. Assumes nothing.
+-- Drawings on one or two points by computation: the tour's length alone does not show a tree, which crossing is the first, in which
+-- order the areas across the sides are met, and when a drawing is connected. Assumes nothing.
 use mathlib.Core.Path.{_≡_, refl}
 use mathlib.Core.Bool.{true, false}
 use mathlib.Core.List.{List, [], _∷_}
 use Prim.Native.Nat.{ℕ}
 use Rattle.drawing.specs.Drawing.{Drawing, positionOf}
-use Rattle.drawing.specs.Checks.{joined, fewMarks, crosses, firstCrossing}
+use Rattle.drawing.specs.Checks.{joined, connected, fewMarks, crosses, firstCrossing}
 use Rattle.drawing.specs.Session.{answer, Call}
 use Rattle.drawing.specs.Book.{bookSession, bookLandings}
 
@@ -21,6 +21,9 @@ row turning start = record { turning = turning; marks = 0 ∷ 0 ∷ 0 ∷ []; st
 
 abbrev apart : Drawing
 apart = record { turning = 0 ∷ 1 ∷ []; marks = 0 ∷ []; start = 0 }
+
+abbrev loops : Drawing
+loops = record { turning = 1 ∷ 0 ∷ 3 ∷ 2 ∷ []; marks = 1 ∷ 1 ∷ []; start = 0 }
 
 pub record Cases : Type 0 where
   -- 01: "two interlaced marked loops on one point also tour all ends"
@@ -44,9 +47,12 @@ pub record Cases : Type 0 where
   pub in-walk-order : bookLandings nested 2 ≡ 3 ∷ 1 ∷ []
   -- an unmarked border joins nothing
   pub not-joined : joined apart ≡ false
+  -- but it is a path between its points; two loops on two points have none
+  pub one-piece : connected apart ≡ true
+  pub two-pieces : connected loops ≡ false
 
 pub cases : Cases
-unfolding positionOf fewMarks crosses firstCrossing bookSession bookLandings joined
+unfolding positionOf fewMarks crosses firstCrossing bookSession bookLandings joined connected
 cases =
     record {
       tours-all = refl;
@@ -61,4 +67,6 @@ cases =
       session-moves = refl;
       in-walk-order = refl;
       not-joined = refl;
+      one-piece = refl;
+      two-pieces = refl;
     }

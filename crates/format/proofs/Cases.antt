@@ -1,5 +1,5 @@
--- Two maps and a drawing by computation: in B and B* a 0 opens and a 1 closes, a loop joins its point with itself, and 7 carries
--- its pair. Assumes nothing.
+-- Two maps and some drawings by computation: in B and B* a 0 opens and a 1 closes, a loop joins its point with itself, 7 carries
+-- its pair, and in which order finding marks declines. Assumes nothing.
 use mathlib.Core.Path.{_≡_, refl}
 use mathlib.Core.Bool.{true, false}
 use mathlib.Core.List.{List, [], _∷_}
@@ -11,6 +11,7 @@ use Rattle.drawing.specs.Session.{answer, refusedWith}
 use Rattle.format.specs.Bytes.{longest, wordIn}
 use Rattle.format.specs.Calls.{joiningOf}
 use Rattle.format.specs.Pack.{packOf}
+use Rattle.format.specs.Suggest.{marksRefusal}
 
 -- document 01's cases (b) and (c)
 abbrev stubMap : List ℕ
@@ -23,6 +24,10 @@ enclaveMap = 0x01 ∷ 0x00 ∷ 0x01 ∷ 0x00 ∷ 0x02 ∷ 0x00 ∷ 0x00 ∷ 0x02
 abbrev interlaced : Drawing
 interlaced = record { turning = 2 ∷ 3 ∷ 1 ∷ 0 ∷ []; marks = 0 ∷ 0 ∷ []; start = 0 }
 
+-- two borders with these entries, whose marks and start finding marks does not look at
+abbrev two : List ℕ → Drawing
+two turning = record { turning = turning; marks = 255 ∷ 255 ∷ []; start = 9 }
+
 pub record Cases : Type 0 where
   pub stub-opens : wordIn stubMap .letter 0 ≡ record { family = round; closing = false }
   pub stub-closes : wordIn stubMap .letter 1 ≡ record { family = round; closing = true }
@@ -31,9 +36,13 @@ pub record Cases : Type 0 where
   pub enclave-joins : joiningOf enclaveMap 1 1 ≡ answer 1
   pub enclave-closes : wordIn enclaveMap .letter 1 ≡ record { family = square; closing = true }
   pub seven-carries : packOf interlaced 12 longest ≡ refusedWith 7 (0 ∷ 1 ∷ [])
+  -- a ring of two borders; two loops on two points; the same with an entry twice, which comes first
+  pub ring-found : marksRefusal (two (2 ∷ 3 ∷ 0 ∷ 1 ∷ [])) 12 ≡ 0
+  pub loops-apart : marksRefusal (two (1 ∷ 0 ∷ 3 ∷ 2 ∷ [])) 12 ≡ 21
+  pub four-first : marksRefusal (two (1 ∷ 1 ∷ 3 ∷ 2 ∷ [])) 12 ≡ 4
 
 pub cases : Cases
-unfolding wordIn joiningOf packOf
+unfolding wordIn joiningOf packOf marksRefusal
 cases =
     record {
       stub-opens = refl;
@@ -42,4 +51,7 @@ cases =
       enclave-joins = refl;
       enclave-closes = refl;
       seven-carries = refl;
+      ring-found = refl;
+      loops-apart = refl;
+      four-first = refl;
     }

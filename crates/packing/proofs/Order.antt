@@ -7,30 +7,25 @@
 -- pack-done        == their answer is packing's
 -- Assumes nothing.
 use mathlib.Core.Path.{_≡_, refl, sym, ap, _∙_}
-use mathlib.Core.Logic.{inl, inr}
 use mathlib.Core.Bool.{Bool, true, false, not, _&&_}
 use mathlib.Core.List.{List}
-use Prim.Native.Nat.{ℕ, zero, suc, _*_, _<_, _≤_}
+use Prim.Native.Nat.{ℕ, suc, _*_, _<_, _≤_}
 use native.Mathlib.Omega.{arith}
 use borrow.Author.Tests.{le-leb, lt-leb, lt-ltb}
 use lib.Dec.{ltb, leb}
 use lib.ListN.{length}
-use lib.Seq.{ext-getD}
-use mir.Syntax.{w64}
-use mir.Val.{Fits}
 use Rattle.count.specs.Below.{pick}
-use Rattle.count.proofs.Logic.{lt-or-ge}
 use Rattle.bits.specs.Writes.{cleared}
 use Rattle.drawing.specs.Drawing.{Drawing, borders}
-use Rattle.drawing.specs.Checks.{LengthsFit, InRange, lengthsFit, inRange, distinct, joined, fewMarks, crosses}
+use Rattle.drawing.specs.Checks.{InRange, lengthsFit, inRange, distinct, joined, fewMarks, crosses}
 use Rattle.drawing.specs.Session.{Answer, answer, refusedWith, refused}
-use Rattle.drawing.proofs.Checks.{lengths-decides, range-decides}
+use Rattle.drawing.proofs.Checks.{range-decides}
 use Rattle.format.specs.Bytes.{longest}
 use Rattle.format.specs.Open.{unless, afterRefusalWith}
 use Rattle.format.specs.Pack.{packedBytes, packRefusal, packCarries, packOf, workLeft}
 use Rattle.format.proofs.Refusals.{carries-none}
 use Rattle.drawing.specs.Laid.{lent}
-use Rattle.checking.specs.Lent.{Blank, Kept}
+use Rattle.checking.specs.Lent.{Kept}
 use Rattle.packing.specs.declared.answers.Packed.the-variants as the-case
 use Rattle.packing.specs.Answers.{packedMeans, lengthOf, written, laterRefusal, laterOf, Packs, PacksLater}
 use Rattle.checking.proofs.Decided.{passes, fails}

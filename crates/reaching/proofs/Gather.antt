@@ -3,15 +3,14 @@
 -- Gathering ts h w k at v r == from w and the end h the walk has come to `at`, and v queues r ends
 -- gathering-..     == from one end to the next, and when it is back
 -- Assumes nothing.
-use mathlib.Core.Path.{_≡_, refl, sym, ap, _∙_}
+use mathlib.Core.Path.{_≡_, refl, ap, _∙_}
 use mathlib.Core.Logic.{_⊎_, inl, inr}
 use mathlib.Core.List.{List}
-use Prim.Native.Nat.{ℕ, _+_, _-_, _*_, _^_, _<_, _≤_}
+use Prim.Native.Nat.{ℕ, _+_, _-_, _^_, _<_}
 use native.Mathlib.Omega.{arith}
 use lib.ListN.{length, getD, set, length-set}
 use mir.Syntax.{w64}
 use mir.Val.{Fits}
-use Rattle.count.proofs.Logic.{same-or-not}
 use Rattle.orbits.proofs.Low.{low-step}
 use Rattle.checking.specs.Lent.{next, Turns}
 use Rattle.reaching.specs.Queue.{IsFlagged, Queued, Longer, least, Whole, Gathered}

@@ -5,24 +5,21 @@
 -- leading w        == the test whether an end is the least of its point, and flagged
 -- leading-more     == one point more is flagged: one more such end
 -- Assumes nothing.
-use mathlib.Core.Path.{_≡_, sym, ap, _∙_}
-use mathlib.Core.Logic.{_≢_, _⊎_, inl, inr}
-use mathlib.Core.Bool.{Bool, true, false, not, _&&_}
+use mathlib.Core.Path.{_≡_, sym, _∙_}
+use mathlib.Core.Logic.{_⊎_, inl, inr}
+use mathlib.Core.Bool.{Bool, true, _&&_}
 use mathlib.Core.List.{List}
 use Prim.Native.Nat.{ℕ, _+_, _<_}
-use native.Mathlib.Omega.{arith}
-use borrow.Author.Tests.{eq-eqb, eqb-true}
-use lib.Dec.{eqb}
 use lib.ListN.{length, getD}
 use Rattle.count.specs.Below.{count}
-use Rattle.count.proofs.Logic.{same-or-not, true-or-false, true-not-false, both, both-left, both-right, bool-same}
+use Rattle.count.proofs.Logic.{same-or-not, true-or-false, both, both-left, both-right, bool-same}
 use Rattle.count.proofs.Below.{count-one-less}
 use Rattle.orbits.specs.Cycles.{leads}
 use Rattle.orbits.proofs.Same.{same-cycle-induct}
 use Rattle.orbits.proofs.Low.{low-below, low-low, low-same-cycle, leads-is, leads-low}
 use Rattle.checking.specs.Lent.{next, Turns}
 use Rattle.reaching.specs.Queue.{IsFlagged, isOn, least, Whole}
-use Rattle.reaching.proofs.Queue.{on-yes, on-no, on-has}
+use Rattle.reaching.proofs.Queue.{on-yes, on-has}
 
 abbrev pub leading : List ℕ → List ℕ → ℕ → Bool
 leading ts w x = leads (length ts) (next ts) x && isOn w x

@@ -9,12 +9,12 @@ use mathlib.Core.Path.{_≡_, refl, sym, ap, _∙_}
 use mathlib.Core.Logic.{inl, inr}
 use mathlib.Core.Bool.{Bool, true, false, _&&_}
 use mathlib.Core.List.{List}
-use Prim.Native.Nat.{ℕ, suc, _+_, _*_, _^_, _<_, _≤_}
+use Prim.Native.Nat.{ℕ, suc, _+_, _*_, _<_, _≤_}
 use native.Mathlib.Omega.{arith}
 use borrow.Author.Tests.{eq-eqb, ne-eqb, eqb-true}
 use lib.Dec.{eqb}
 use lib.ListN.{length, getD}
-use Rattle.count.specs.Below.{Decides, count, table}
+use Rattle.count.specs.Below.{count}
 use Rattle.count.proofs.Logic.{same-or-not, true-or-false, true-not-false}
 use Rattle.count.proofs.Below.{count-same, count-all, count-none, count-zero}
 use Rattle.count.proofs.Lists.{table-length, table-getD}
@@ -29,11 +29,10 @@ use Rattle.drawing.proofs.Labels.{linked-within, cycle-linked, joins-from}
 use Rattle.drawing.proofs.Cells.{cells-none, points-are}
 use Rattle.checking.specs.Lent.{next, Turns, Blank, Kept}
 use Rattle.checking.proofs.Laws.{turns-permute}
-use Rattle.checking.proofs.Decided.{decides-yes}
 use Rattle.checking.proofs.Working.{kept-none, kept-then}
-use Rattle.reaching.specs.Queue.{IsFlagged, isOn, queued, Queued, least, Whole, Gathered}
-use Rattle.reaching.specs.Reaching.{treeAt, treeIn, marksIn, Reached, Crossed, MarksAt, Spread}
-use Rattle.reaching.proofs.Queue.{on-yes, on-no, queue-none, queue-few, queue-room}
+use Rattle.reaching.specs.Queue.{IsFlagged, isOn, queued, least, Whole, Gathered}
+use Rattle.reaching.specs.Reaching.{treeAt, treeIn, marksIn, Reached, Crossed, Spread}
+use Rattle.reaching.proofs.Queue.{on-yes, on-no, queue-few, queue-room}
 use Rattle.reaching.proofs.Points.{leading, leading-more}
 
 and-true : (t : Bool) → t && true ≡ t

@@ -33,7 +33,7 @@ use Rattle.checking.proofs.Decided.{passes, fails}
 use Rattle.checking.proofs.Working.{kept-none}
 use Rattle.reaching.specs.declared.search.Borders.{Borders}
 use Rattle.reaching.specs.declared.search.Borders.the-variants as the-set
-use Rattle.reaching.specs.Queue.{IsFlagged, queued, Queued, least, Whole, Gathered}
+use Rattle.reaching.specs.Queue.{IsFlagged, Queued, least, Whole, Gathered}
 use Rattle.reaching.specs.Reaching.{allowed, treeAt, treeIn, Reached, Crossed}
 use Rattle.reaching.proofs.Queue.{queue-same, queue-few}
 use Rattle.reaching.proofs.Points.{leading, leading-more}

@@ -4,8 +4,8 @@
 -- tree-not, tree-found   == no tree, or one
 -- tree-told        == the working list plays no part in it
 -- Assumes nothing.
-use mathlib.Core.Path.{_≡_, refl, sym, ap, _∙_}
-use mathlib.Core.Bool.{Bool, true, false}
+use mathlib.Core.Path.{_≡_, refl, sym, _∙_}
+use mathlib.Core.Bool.{true, false}
 use mathlib.Core.List.{List}
 use Prim.Native.Nat.{ℕ, _*_}
 use borrow.Author.Tests.{eq-eqb, ne-eqb}
@@ -14,7 +14,7 @@ use lib.ListN.{length}
 use Rattle.count.specs.Below.{pick, table}
 use Rattle.count.proofs.Logic.{pick-yes, pick-no, true-not-false}
 use Rattle.drawing.specs.Drawing.{Kind, isMarked, everyBorder, cells}
-use Rattle.drawing.specs.Checks.{joins, joined, connected}
+use Rattle.drawing.specs.Checks.{joined, connected}
 use Rattle.drawing.specs.Laid.{lent}
 use Rattle.drawing.proofs.Labels.{joins-decides}
 use Rattle.checking.specs.Lent.{Turns}

@@ -3,7 +3,7 @@
 -- Copied w from e old ms == the first e marks of ms are those that stand in w, and there are as many as in old
 -- copied-..         == from one mark to the next, and at the last
 -- Assumes nothing.
-use mathlib.Core.Path.{_≡_, refl, sym, ap, _∙_}
+use mathlib.Core.Path.{_≡_, refl, sym, _∙_}
 use mathlib.Core.Logic.{inl, inr}
 use mathlib.Core.List.{List}
 use Prim.Native.Nat.{ℕ, _+_, _<_, _≤_}

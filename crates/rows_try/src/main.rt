@@ -1,5 +1,5 @@
-// Runs the examples of document 01's table, rows 1 to 17, and of 20, and writes for each its number and the number that came: they
-// are the same in every line. Then the drawings of (a) to (c), which are accepted: 0.
+// Runs the examples of document 01's table, rows 1 to 17, and of 20 and 21, and writes for each its number and the number that came:
+// they are the same in every line. Then the drawings of (a) to (c), which are accepted: 0.
 use format::LONGEST;
 use libc::STDOUT_FILENO;
 use opening::Area;
@@ -16,6 +16,7 @@ const SHORT: usize = LONGEST - 1;
 
 fn main() {
     pack_rows();
+    marks_rows();
     open_rows();
     call_rows();
     accepted();
@@ -30,6 +31,13 @@ fn pack_rows() {
     row(5, pack(&[0, 1], &[0]));
     row(6, pack(&[1, 0], &[1]));
     row(7, pack(&[2, 3, 1, 0], &[0, 0]));
+}
+
+// 21: finding marks, for two borders whose marks are 255 before. 4 comes before it; a border that is not marked joins its points.
+fn marks_rows() {
+    row(21, suggest(&[1, 0, 3, 2]));
+    row(4, suggest(&[1, 1, 3, 2]));
+    row(0, suggest(&[2, 3, 0, 1]));
 }
 
 // 8, 20 and 9 to 12: opening. The count of areas is looked at before the length.
@@ -88,6 +96,13 @@ fn pack_into(turning: &[u16], marks: &[u8], work: &mut [u16], out: &mut [u8]) ->
         Packed::Crossing(a, b) => 7,
         Packed::Declined(k) => k,
     }
+}
+
+// The number of the refusal of finding marks, or 0 where they are found.
+fn suggest(turning: &[u16]) -> u8 {
+    let mut marks = [255u8; 2];
+    let mut work = [0u16; 12];
+    suggesting::suggest(turning, &mut marks, &mut work)
 }
 
 fn open(map: &[u8]) -> u8 {

@@ -7,17 +7,17 @@
 -- first-later      == none does, and what 4 and 21 answer is the call's answer
 -- Assumes nothing.
 use mathlib.Core.Path.{_≡_, refl, sym, ap, _∙_}
-use mathlib.Core.Bool.{Bool, true, false, not, _&&_}
+use mathlib.Core.Bool.{Bool, true, false, not}
 use mathlib.Core.List.{List}
 use Prim.Native.Nat.{ℕ, suc, _*_, _<_, _≤_}
 use native.Mathlib.Omega.{arith}
 use borrow.Author.Tests.{le-leb, lt-leb}
-use lib.Dec.{ltb, leb}
+use lib.Dec.{leb}
 use lib.ListN.{length}
-use Rattle.count.specs.Below.{Decides, pick}
+use Rattle.count.specs.Below.{Decides}
 use Rattle.bits.specs.Writes.{cleared}
 use Rattle.drawing.specs.Drawing.{Drawing, borders}
-use Rattle.drawing.specs.Checks.{LengthsFit, lengthsFit, EntriesFit, entriesFit, distinct, connected}
+use Rattle.drawing.specs.Checks.{lengthsFit, entriesFit, distinct, connected}
 use Rattle.drawing.specs.Laid.{lent}
 use Rattle.format.specs.Open.{unless}
 use Rattle.format.specs.Pack.{workLeft}

@@ -8,17 +8,17 @@ use mathlib.Core.Path.{_≡_, refl, sym, ap, _∙_}
 use mathlib.Core.Logic.{inl, inr, _↔_}
 use mathlib.Core.Bool.{Bool, true, false}
 use mathlib.Core.List.{List}
-use Prim.Native.Nat.{ℕ, suc, _+_, _*_, _≤_, _<_, max}
+use Prim.Native.Nat.{ℕ, suc, _*_, _≤_, _<_, max}
 use native.Mathlib.Omega.{arith}
 use lib.Dec.{eqb}
-use lib.ListN.{length, getD}
+use lib.ListN.{getD}
 use Rattle.count.specs.Below.{pick, count, table}
 use Rattle.count.proofs.Logic.{lt-or-ge}
 use Rattle.count.proofs.Below.{count-same, count-zero}
 use Rattle.count.proofs.Lists.{table-length, table-getD}
 use Rattle.orbits.specs.Cycles.{Permutes, cycles}
 use Rattle.drawing.specs.Drawing.{Drawing, Kind, borders, ends, turn, marked, isMarked, everyBorder, over, walk, around, cells}
-use Rattle.drawing.specs.Checks.{Connected, Joins, PassesFour, PassesSix, markCount}
+use Rattle.drawing.specs.Checks.{Connected, PassesFour, PassesSix, markCount}
 use Rattle.drawing.specs.Tree.{SuggestedTree}
 use Rattle.drawing.specs.Laid.{lent}
 use Rattle.drawing.proofs.Ends.{entries-permute}
