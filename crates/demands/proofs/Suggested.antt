@@ -1,6 +1,8 @@
 -- Marks found for the drawer (document 02, 7/14), as theorems: of every drawing, and of whatever marks the call leaves.
 --
--- suggested-passes == with suggested marks and any start in range the drawing passes 1 to 6, so that packing answers a map or 7
+-- tree-passes      == with the marks of any spanning tree and any start in range the drawing passes 1 to 6, so that packing answers
+--                     a map or 7
+-- suggested-passes == so with those that the call leaves
 -- connected-tree   == a drawing that passes 1 to 4 is connected exactly if some marks join all points with n - 1 borders
 -- marks-decline    == when the call declines: in order, whatever marks and start are, with 21 exactly where there is no tree
 -- Assumes nothing.
@@ -13,6 +15,7 @@ use Rattle.count.proofs.Logic.{true-or-false}
 use Rattle.count.proofs.Decides.{decides-refutes}
 use Rattle.drawing.specs.Drawing.{Drawing, borders, ends}
 use Rattle.drawing.specs.Checks.{PassesFour, PassesSix, crosses, firstCrossing}
+use Rattle.drawing.specs.Tree.{SuggestedTree}
 use Rattle.drawing.specs.Laid.{lent}
 use Rattle.drawing.proofs.Crossing.{crosses-decides, first-crossing}
 use Rattle.tours.proofs.Trees.{connected-tree as tree-exactly, suggested-six}
@@ -22,12 +25,11 @@ use Rattle.demands.specs.Statements.{turanBytes}
 use Rattle.demands.specs.Suggested.{SuggestedPasses, ConnectedTree, MarksDecline}
 use Rattle.demands.proofs.Demands.{demand-2-pack}
 
-pub suggested-passes : (D : Drawing) (work work' ms : List ℕ) → Suggests D work work' ms 0 → (s : ℕ) → s < max (ends D) 1
+pub tree-passes : (D : Drawing) → PassesFour D → (ms : List ℕ) → SuggestedTree D ms → (s : ℕ) → s < max (ends D) 1
     → SuggestedPasses D ms s
-suggested-passes D work work' ms G s l =
+tree-passes D four ms T s l =
     let E : Drawing = lent (D .turning) ms s in
-    let four : PassesFour D = marks-accepts D (length work) .0 (sym (G .number)) .1 in
-    let six : PassesSix E = suggested-six D four ms (G .suggested refl) s l in
+    let six : PassesSix E = suggested-six D four ms T s l in
     record {
       six = six;
       packs = λ w o room.
@@ -40,6 +42,11 @@ suggested-passes D work work' ms G s l =
                 (room, record { six = six; flat = λ a b c. decides-refutes (crosses-decides E) f (a, b, c) }, refl))
           ];
     }
+
+pub suggested-passes : (D : Drawing) (work work' ms : List ℕ) → Suggests D work work' ms 0 → (s : ℕ) → s < max (ends D) 1
+    → SuggestedPasses D ms s
+suggested-passes D work work' ms G s l =
+    tree-passes D (marks-accepts D (length work) .0 (sym (G .number)) .1) ms (G .suggested refl) s l
 
 pub connected-tree : (D : Drawing) → PassesFour D → ConnectedTree D
 connected-tree D four = record { exactly = tree-exactly D four }
