@@ -131,11 +131,11 @@ enum {
  * or 1, n-1 of them are 1, and the borders with a 1 join all points. Which tree it is, is left open. With these marks and
  * any start that is an end (0 if m is 0) the drawing passes 1 to 6, so that pmap_pack packs it or answers 7.
  *
- * m is marks_len, and turning_len is to be 2m. What `marks` holds before is overwritten, whatever it is, and is not read. With
- * any refusal it is left as it was. `work` is a working list of at least 6m entries, left as by pmap_pack: with 1, 2 and 3 as
- * it was; after any other outcome, success too, its first 6m entries are 0 and the rest is as it was. There are marks for
- * every drawing whose points are all joined by paths of borders, and 21 is the answer for exactly those others that pass 1
- * to 4.
+ * m is marks_len, and turning_len is to be 2m. What `marks` holds before is not read: the status does not depend on it, and
+ * with 0 every mark is overwritten. (Nor does the tree depend on it; as the tree is left open, that is tested and not proved.)
+ * With any refusal `marks` is left as it was. `work` is a working list of at least 6m entries, left as by pmap_pack: with 1, 2
+ * and 3 as it was; after any other outcome, success too, its first 6m entries are 0 and the rest is as it was. Of the drawings
+ * that pass 1 to 4, those whose points are all joined by paths of borders get marks, and exactly the others get 21.
  * Status: 0, 1, 2, 3, 4, 21.
  */
 uint8_t pmap_marks(const uint16_t *turning, size_t turning_len, uint8_t *marks, size_t marks_len, uint16_t *work,
