@@ -21,7 +21,8 @@ use Rattle.drawing.specs.Checks.{PassesSeven}
 use Rattle.drawing.specs.Session.{Answer, answer, refused, Call}
 use Rattle.drawing.specs.Book.{bookAnswer, bookFirst, bookSize, bookNeighbours, bookJoining, noSuch}
 use Rattle.format.specs.Bytes.{Size, sizeIn, wordIn}
-use Rattle.format.specs.Open.{openRefusal, afterRefusal, opened}
+use Rattle.format.specs.Open.{openRefusal, opened}
+use Rattle.format.proofs.Passes.{opened-opens}
 use Rattle.format.specs.Calls.{mapAnswer, atPlace, cellsIn, isNumber, firstOf, placesIn, sizeOf, neighboursIn, neighboursOf, joinIn, joiningOf}
 use Rattle.format.specs.Pack.{wordOf, packedBytes}
 use Rattle.tariff.specs.Tariff.{rated}
@@ -36,8 +37,7 @@ use Rattle.demands.proofs.Alike.{alike-call, alike-first, alike-places,
 use Rattle.demands.proofs.Faithful.{packed-alike}
 
 pub opens-opened : {A : Type 0} (s : List ℕ) (a : Answer A) → openRefusal s ≡ 0 → opened s a ≡ a
-unfolding opened
-opens-opened s a e = ap (λ k. afterRefusal k a) e
+opens-opened s a e = opened-opens s a e
 
 nested-word : (D : Drawing) → PassesSeven D → (K : Family) → Balanced (seen K (wordOf D)) (wordOf D .size)
 unfolding wordOf

@@ -18,7 +18,8 @@
 -- Assumes nothing.
 use mathlib.Core.Path.{_≡_, refl, sym, ap, _∙_, subst}
 use mathlib.Core.Bool.{Bool, true, false, _&&_}
-use mathlib.Core.List.{List}
+use mathlib.Core.Logic.{_≢_}
+use mathlib.Core.List.{List, []}
 use Prim.Native.Nat.{ℕ, _+_, _-_, _*_, _≤_, _<_}
 use native.Mathlib.Omega.{arith}
 use lib.Ieee.{Float}
@@ -38,11 +39,12 @@ use Rattle.drawing.specs.Book.{bookAnswer, bookSession}
 use Rattle.format.specs.Bytes.{Size, areasOf, sizeIn, writtenAreas, mapLength, wordIn}
 use Rattle.format.specs.Open.{openRefusal, Opens, openOf}
 use Rattle.format.specs.Calls.{pointOf, areaOf, mapSession, mapAnswer}
-use Rattle.format.specs.Pack.{wordOf, sizeFor, packedBytes, Room, packRefusal, packCarries, packOf, drawingOf, unpackOf}
+use Rattle.format.specs.Pack.{wordOf, sizeFor, packedBytes, Room, packChecks, packRefusal, packOf, drawingOf, unpackOf}
 use Rattle.format.specs.Fits.{Fits}
-use Rattle.format.proofs.Chain.{after-zero, after-answer}
+use Rattle.refusals.specs.Checks.{Check}
+use Rattle.refusals.proofs.Steps.{checked-none, answered-all, answered-none, by-refusals}
 use Rattle.format.proofs.Passes.{opens-passes}
-use Rattle.format.proofs.Refusals.{carries-none, pack-accepts, pack-crosses}
+use Rattle.format.proofs.Refusals.{pack-accepts, pack-crosses}
 pub use Rattle.format.proofs.Passes.{open-refusals}
 pub use Rattle.format.proofs.Refusals.{pack-refusals}
 pub use Rattle.format.proofs.OneForm.{one-form}
@@ -75,9 +77,6 @@ packed-length : (D : Drawing) → PassesSeven D → length (turanBytes D) ≡ ma
 packed-length D seven =
     ap length (turan-packed D) ∙ packed-long D seven
 
-abbrev carried : Drawing → ℕ → ℕ → List ℕ
-carried D work out = packCarries D (packRefusal D work out)
-
 -- 7, with whatever it carries
 seven-with : (a : Answer (List ℕ)) → numberOf a ≡ 7 → (xs : List ℕ) × (a ≡ refusedWith 7 xs)
 unfolding numberOf
@@ -89,17 +88,17 @@ crossing-packed D work out room six t =
     pack-crosses D work out (firstCrossing D) .1 (room, six, first-crossing D .first (firstCrossing D) .1 (t, refl))
 
 pub demand-2-pack : (D : Drawing) (work out : ℕ) → Exact D work out
-unfolding packOf numberOf
+unfolding packOf packRefusal numberOf
 demand-2-pack D work out =
     record {
       bytes = turan-packed D;
       writes = λ s. (
         λ e.
-            let a = after-answer (packRefusal D work out) (carried D work out) (packedBytes D) s e in
-            let p = pack-accepts D work out .0 (a .0) in
-            (p .0, p .1, sym (a .1) ∙ sym (turan-packed D)),
+            let cs : List Check = packChecks D work out in
+            let p = pack-accepts D work out .0 (answered-none cs (packedBytes D) s e) in
+            (p .0, p .1, sym (answered-all cs (packedBytes D) s e .1) ∙ sym (turan-packed D)),
         λ p.
-            after-zero (packRefusal D work out) (carried D work out) (answer (packedBytes D)) (pack-accepts D work out .1 (p .0, p .1))
+            checked-none (packChecks D work out) (answer (packedBytes D)) refl (pack-accepts D work out .1 (p .0, p .1))
             ∙ ap answer (sym (p .2 ∙ turan-packed D)),
       );
       crosses = (
@@ -116,7 +115,8 @@ demand-2-pack D work out =
           let X : FirstCrossing D (y .0) = pack-crosses D work out (y .0) .0 (y .1) .2 in
           y .1 ∙ ap (refusedWith 7) (first-crossing D .first (y .0) .0 X .1);
       places = λ six a b X. alternate-places D six a b (X .alternate);
-      bare = λ k xs e d. pack-refusals D work out .refuses k xs .0 e .1 ∙ carries-none D k d;
+      bare = λ k xs. by-refusals (λ j ys. j ≢ 7 → ys ≡ []) (packChecks D work out) (packedBytes D) k xs
+          (λ _. refl, (λ _. refl, (λ _. refl, (λ _. refl, (λ _. refl, (λ _. refl, (λ n. absurd (n refl), tt)))))));
       long = λ seven. packed-length D seven;
       fits = λ seven.
           let f : Fits (sizeFor D) (wordOf D) = passes-fits D seven in
@@ -157,9 +157,9 @@ module _ (s : List ℕ) (opens : Opens s) where
   unpacked-start = refl
 
   unpacked-packs : (work out : ℕ) → Room unpackedOf work out → packOf unpackedOf work out ≡ answer s
-  unfolding packOf
+  unfolding packOf packRefusal
   unpacked-packs work out room =
-      after-zero (packRefusal unpackedOf work out) (carried unpackedOf work out) (answer (packedBytes unpackedOf)) (pack-accepts unpackedOf work out .1 (room, unpacked-passes))
+      checked-none (packChecks unpackedOf work out) (answer (packedBytes unpackedOf)) refl (pack-accepts unpackedOf work out .1 (room, unpacked-passes))
       ∙ ap answer unpacked-bytes
 
   unpacked-answer : (t k : ℕ) → 2 * sizeIn s .m ≤ t → sizeIn s .m ≤ k → unpackOf s t k ≡ answer unpackedOf

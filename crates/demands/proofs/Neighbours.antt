@@ -23,13 +23,14 @@ use Rattle.drawing.specs.Drawing.{Drawing, Kind, borders, ends, other, cells}
 use Rattle.drawing.specs.Session.{Call}
 use Rattle.drawing.specs.Book.{numberAt, hasNumber, endsOn, bookSize, bookNeighbours}
 use Rattle.drawing.proofs.Ends.{other-other, other-end}
+use Rattle.refusals.proofs.Steps.{checked-answers}
 use Rattle.words.specs.Brackets.{Balanced, number, size}
 use Rattle.words.specs.declared.family.Family.{Family}
 use Rattle.words.specs.declared.family.Family.the-variants.{Square as square}
 use Rattle.words.specs.Word.{seen, crossing}
 use Rattle.words.proofs.Crossing.{crossing-below, crossing-involutive}
 use Rattle.format.specs.Bytes.{sizeIn, wordIn}
-use Rattle.format.specs.Open.{openRefusal, afterRefusal, opened}
+use Rattle.format.specs.Open.{openChecks, openRefusal, opened}
 use Rattle.format.specs.Calls.{moveIn, atPlace, mapAnswer, crossOf, areaOf, cellsIn, isNumber, placesIn, sizeOf, neighboursIn, neighboursOf}
 use Rattle.format.proofs.Decode.{passes-nested}
 use Rattle.format.proofs.Openings.{cells-numbers, number-cells}
@@ -99,10 +100,6 @@ module _ (area cross : ℕ → ℕ) (n m v : ℕ) (range : (p : ℕ) → p < n �
 refused-not : {A : Type 0} (k : ℕ) (xs : List ℕ) (x : A) → refusedWith k xs ≡ answer x → ⊥
 refused-not k xs x e = let z : _≡_ {A = ℕ} 0 1 = cc in omega arith
 
-after-answers : (k : ℕ) (a : Answer ℕ) (x : ℕ) → afterRefusal k a ≡ answer x → (k ≡ 0) × (a ≡ answer x)
-after-answers zero a x e = (refl, e)
-after-answers (suc k) a x e = absurd (refused-not (suc k) [] x e)
-
 module _ (s : List ℕ) where
   abbrev area : ℕ → ℕ
   area = number (seen square (wordIn s))
@@ -111,12 +108,12 @@ module _ (s : List ℕ) where
   crosses = crossing (wordIn s)
 
   asked-opens : (c : Call) (i x : ℕ) → mapAnswer s c i ≡ answer x → openRefusal s ≡ 0
-  unfolding mapAnswer opened
-  asked-opens c i x e = after-answers (openRefusal s) (atPlace (wordIn s) c i) x e .0
+  unfolding mapAnswer opened openRefusal
+  asked-opens c i x e = checked-answers (openChecks s) (atPlace (wordIn s) c i) x e .0
 
   asked-place : (c : Call) (i x : ℕ) → mapAnswer s c i ≡ answer x → atPlace (wordIn s) c i ≡ answer x
   unfolding mapAnswer opened
-  asked-place c i x e = after-answers (openRefusal s) (atPlace (wordIn s) c i) x e .1
+  asked-place c i x e = checked-answers (openChecks s) (atPlace (wordIn s) c i) x e .1
 
   placed : (c : Call) (i x : ℕ) → atPlace (wordIn s) c i ≡ answer x → (suc (pred i) ≡ i) × (pred i < wordIn s .size)
   unfolding atPlace

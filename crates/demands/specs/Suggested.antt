@@ -9,15 +9,14 @@ use mathlib.Core.Logic.{_⊎_, _↔_}
 use mathlib.Core.List.{List}
 use Prim.Native.Nat.{ℕ, _*_, _≤_}
 use lib.ListN.{length}
+use Rattle.refusals.specs.Checks.{after, InOrder}
 use Rattle.drawing.specs.Drawing.{Drawing, borders}
 use Rattle.drawing.specs.Checks.{Connected, PassesFour, PassesSix, firstCrossing}
 use Rattle.drawing.specs.Tree.{SuggestedTree}
 use Rattle.drawing.specs.Session.{answer, refusedWith}
 use Rattle.drawing.specs.Laid.{lent}
-use Rattle.format.specs.Open.{afterRefusal}
-use Rattle.format.specs.Refusals.{InOrder, bare}
 use Rattle.format.specs.Pack.{Room, packOf}
-use Rattle.format.specs.Suggest.{marksChecks, MarksCheck, marksRefusal}
+use Rattle.format.specs.Suggest.{marksChecks, marksRefusal}
 use Rattle.demands.specs.Statements.{turanBytes}
 
 -- 02, 7/14: "They reach packing only if they join all points with n-1 borders." Where there is room packing then writes Turán's
@@ -34,7 +33,7 @@ pub record ConnectedTree (D : Drawing) : Type 0 where
 -- `order`: "21 .. straight after 4", and the first check that fails gives its number. `unread`: "start, mark values and map output don't
 -- concern it". `never-the-method`: 21 is given where there is no tree to be found, and nowhere else.
 pub record MarksDecline (D : Drawing) (work : ℕ) : Type 0 where
-  pub order : InOrder bare (MarksCheck D work) marksChecks (tt {0}) (afterRefusal (marksRefusal D work) (answer (tt {0})))
+  pub order : InOrder (marksChecks D work) (tt {0}) (after (marksChecks D work) (tt {0}))
   pub unread : (ms : List ℕ) (s : ℕ) → length ms ≡ borders D → marksRefusal (lent (D .turning) ms s) work ≡ marksRefusal D work
   pub never-the-method : (marksRefusal D work ≡ 21)
       ↔ ((6 * borders D ≤ work) × PassesFour D × ((ms : List ℕ) → SuggestedTree D ms → ⊥))

@@ -10,6 +10,7 @@
 use mathlib.Core.List.{List, _++_}
 use Prim.Native.Nat.{ℕ}
 use lib.ListN.{length, drop}
+pub use Rattle.refusals.specs.Answer.{laid}
 use Rattle.drawing.specs.Drawing.{Drawing, borders}
 use Rattle.drawing.specs.Session.{Answer, answer, refusedWith}
 
@@ -20,9 +21,6 @@ lent ts ms s = record { turning = ts; marks = ms; start = s }
 abbrev pub bordersOf : Answer Drawing → Answer ℕ
 bordersOf (answer D) = answer (borders D)
 bordersOf (refusedWith k xs) = refusedWith k xs
-
-abbrev pub laid : List ℕ → List ℕ → List ℕ
-laid new old = new ++ drop (length new) old
 
 -- 01: "An accepted unpack writes the first 2m turning entries and m marks only"; "Output memory is unchanged."
 abbrev pub turningAfter : Answer Drawing → List ℕ → List ℕ

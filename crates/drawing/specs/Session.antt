@@ -1,10 +1,6 @@
--- Answers, calls and sessions: the same for the book and for the packed map (document 01, "The drawing's book").
+-- Calls and sessions: the same for the book and for the packed map (document 01, "The drawing's book").
 --
--- Answer A         == what a call gives: an answer, or a refusal, its number and the numbers that it carries
--- refused k        == refusal k, which carries nothing
--- numberOf a       == document 01's number for it: 0 for an answer
--- carriedBy a      == the numbers that a refusal carries; none with an answer
--- valueOf a        == the number in an answer; 0 where the call is refused
+-- Answer, refused, numberOf, carriedBy, valueOf == those of the crate `refusals`, passed on
 -- Call             == the six calls of a session
 -- isMove c         == whether the answer of c is the new place: cross, turn, turn back and along
 -- placeAfter c a p == the place after the call c was answered by a at place p
@@ -15,27 +11,8 @@ use mathlib.Core.Bool.{Bool, true, false}
 use mathlib.Core.List.{List, [], _∷_}
 use Prim.Native.Nat.{ℕ}
 use Rattle.count.specs.Below.{pick}
-
--- 01, "Numbers returned when a call declines". 02, 2/14: "Refusal 7 now carries the alternating pair"
-pub data Answer (A : Type 0) : Type 0 where
-  answer : A → Answer A
-  refusedWith : ℕ → List ℕ → Answer A
-
--- every refusal but 7
-abbrev pub refused : {A : Type 0} → ℕ → Answer A
-refused k = refusedWith k []
-
-unfoldable pub numberOf : {A : Type 0} → Answer A → ℕ
-numberOf (answer a) = 0
-numberOf (refusedWith k xs) = k
-
-unfoldable pub carriedBy : {A : Type 0} → Answer A → List ℕ
-carriedBy (answer a) = []
-carriedBy (refusedWith k xs) = xs
-
-unfoldable pub valueOf : Answer ℕ → ℕ
-valueOf (answer x) = x
-valueOf (refusedWith k xs) = 0
+pub use Rattle.refusals.specs.Answer.{Answer, answer, refusedWith, refused}
+unfoldable pub use Rattle.refusals.specs.Answer.{numberOf, carriedBy, valueOf}
 
 pub data Call : Type 0 where
   cross turn turn-back along point area : Call

@@ -3,7 +3,6 @@ pub mod Cases
 pub mod Bits
 pub mod Strings
 pub mod Parts
-pub mod Chain
 pub mod Passes
 pub mod Refusals
 pub mod Suggest
@@ -12,5 +11,6 @@ pub mod Longest
 pub mod OneForm
 pub mod Decode
 pub mod Openings
+pub mod Landings
 pub mod Ranks
 pub mod Small

@@ -19,7 +19,8 @@ use Rattle.count.proofs.Logic.{lt-or-ge, true-or-false}
 use Rattle.bits.specs.Strings.{bytesFor}
 use Rattle.drawing.specs.Drawing.{mostBorders}
 use Rattle.format.specs.Bytes.{atM, atN, atAreas, header, Size, areasOf, sizeIn, writtenAreas, le16At, startB, mapLength, longest}
-use Rattle.format.specs.Open.{unless, SizeFits, sizeFits, areasFit, lengthFits, openRefusal}
+use Rattle.refusals.specs.Checks.{unless}
+use Rattle.format.specs.Open.{SizeFits, sizeFits, areasFit, lengthFits, openRefusal}
 use Rattle.format.proofs.Passes.{Passes, decides-size, opens-passes}
 
 pub map-length-most : (z : Size) → z .m ≤ mostBorders → 1 ≤ z .n → z .n ≤ z .m + 1 → mapLength z ≤ longest

@@ -2,19 +2,24 @@
 --
 -- decides-header, decides-size == the test of check 8 decides its proposition, of a header of any length and of the header
 -- Passes s       == what the six checks say of the bytes s, in one record
--- openTests s    == the six tests, in the order of their checks
--- refusal-chain, open-chain == opening's refusal is that of a chain of these tests, and they decide the checks
+-- open-decided   == the six tests decide the checks
 -- opens-passes, passes-opens == no refusal applies exactly if they hold
+-- opened-opens, opened-declines == a call on map bytes gives its own answer, or opening's refusal
 -- open-refusals  == opening gives the number of the first check that fails, or m and n
 -- Assumes nothing.
-use mathlib.Core.Path.{_≡_, refl, sym, _∙_}
+use mathlib.Core.Path.{_≡_, refl}
+use mathlib.Core.Logic.{_↔_}
 use mathlib.Core.Bool.{Bool, true}
-use mathlib.Core.List.{List, [], _∷_}
+use mathlib.Core.List.{List, [], _∷_, _++_}
 use Prim.Native.Nat.{ℕ, _+_, _≤_}
 use native.Mathlib.Omega.{arith}
 use lib.ListN.{length}
 use Rattle.count.specs.Below.{Decides}
 use Rattle.count.proofs.Decides.{decides-eq, decides-le, decides-both, decides-as}
+use Rattle.refusals.specs.Checks.{Hold, InOrder, Decided}
+use Rattle.refusals.specs.Answer.{Answer, refused}
+use Rattle.refusals.proofs.Steps.{checked-none, checked-some}
+use Rattle.refusals.proofs.Order.{each-hold, decided-append, none-refuses, in-order}
 use Rattle.words.specs.Brackets.{Balanced, balanced}
 use Rattle.words.specs.declared.family.Family.{Family}
 use Rattle.words.specs.declared.family.Family.the-variants.{Round as round, Square as square}
@@ -22,11 +27,9 @@ use Rattle.words.proofs.Mate.{balanced-decides}
 use Rattle.bits.specs.Strings.{rank, brackets, unusedZero}
 use Rattle.bits.proofs.Laws.{unused-zero-from, unused-zero-has}
 use Rattle.drawing.specs.Drawing.{mostBorders}
-use Rattle.format.specs.Refusals.{InOrder, bare}
 use Rattle.format.specs.Bytes.{header, areasOf, sizeIn, writtenAreas, bitsA, bitsB, mapLength, partA, partB}
 use Rattle.format.specs.Open.{HeaderFits, headerFits, SizeFits, sizeFits, AreasFit, areasFit, LengthFits, lengthFits, UnusedZero, UnusedFits, unusedFits, OnesFit, onesFit}
-use Rattle.format.specs.Open.{BracketsFit, bracketsFit, openChecks, OpenCheck, openRefusal, opened, openOf}
-use Rattle.format.proofs.Chain.{chain, Chain, each-hold, chain-zero, chain-in-order}
+use Rattle.format.specs.Open.{BracketsFit, bracketsFit, openChecks, openRefusal, opened, openOf}
 
 pub record Passes (s : List ℕ) : Type 0 where
   pub header-fits : header ≤ length s
@@ -96,31 +99,16 @@ module _ (s : List ℕ) where
       (λ r. (r .nested round, r .nested square))
       (decides-both (brackets-decides s round) (brackets-decides s square))
 
-  abbrev pub openTests : List Bool
-  openTests = sizeFits s ∷ areasFit s ∷ lengthFits s ∷ unusedFits s ∷ onesFit s ∷ bracketsFit s ∷ []
+  pub open-decided : Decided (openChecks s)
+  open-decided = (decides-size, λ _. (decides-areas, λ _. (decides-length, λ _. (decides-unused, λ _. (decides-ones, λ _. (decides-brackets, λ _. tt))))))
 
-  pub refusal-chain : openRefusal s ≡ chain openChecks openTests
-  unfolding openRefusal chain
-  refusal-chain = refl
-
-  pub open-chain : Chain (OpenCheck s) openChecks openTests
-  open-chain = (
-    omega arith,
-    decides-size,
-    λ a. (
-      omega arith,
-      decides-areas,
-      λ b. (
-        omega arith,
-        decides-length,
-        λ c. (omega arith, decides-unused, λ d. (omega arith, decides-ones, λ e. (omega arith, decides-brackets, λ f. tt))),
-      ),
-    ),
-  )
+  pub opens-hold : (openRefusal s ≡ 0) ↔ Hold (openChecks s) 6
+  unfolding openRefusal
+  opens-hold = none-refuses (openChecks s) open-decided refl
 
   pub opens-passes : openRefusal s ≡ 0 → Passes s
   opens-passes e =
-      let all = chain-zero (OpenCheck s) openChecks openTests open-chain .0 (sym refusal-chain ∙ e) in
+      let all = opens-hold .0 e in
       let size : SizeFits s = all 0 (omega arith) in
       let areas : AreasFit s = all 1 (omega arith) in
       let length : LengthFits s = all 2 (omega arith) in
@@ -142,17 +130,30 @@ module _ (s : List ℕ) where
 
   pub passes-opens : Passes s → openRefusal s ≡ 0
   passes-opens h =
-      let P : ℕ → Type 0 = OpenCheck s in
       let size : SizeFits s = record { header-fits = h .header-fits; m-most = h .m-most; n-least = h .n-least; n-most = h .n-most } in
       let unused : UnusedFits s = record {
         unused-a = unused-decides (partA s) (bitsA (sizeIn s)) .sound (h .unused-a);
         unused-b = λ K. unused-decides (partB K s) (bitsB K (sizeIn s)) .sound (h .unused-b K);
       } in
-      refusal-chain
-      ∙ chain-zero P openChecks openTests open-chain .1
-      (each-hold P openChecks []
+      opens-hold .1
+      (each-hold (openChecks s) []
       (size, (record { written = h .written }, (record { long = h .long }, (unused, (record { ones = h .ones }, (record { nested = h .nested }, tt)))))))
 
-  pub open-refusals : InOrder bare (OpenCheck s) openChecks (sizeIn s) (openOf s)
-  unfolding openOf opened
-  open-refusals = rw refusal-chain (chain-in-order bare (OpenCheck s) openChecks openTests (sizeIn s) open-chain)
+  pub open-refusals : InOrder (openChecks s) (sizeIn s) (openOf s)
+  unfolding openOf
+  open-refusals = in-order (openChecks s) (sizeIn s) open-decided
+
+-- ---- a call on map bytes, by opening's number
+module _ {A : Type 0} (s : List ℕ) (a : Answer A) where
+  pub opened-opens : openRefusal s ≡ 0 → opened s a ≡ a
+  unfolding opened openRefusal
+  opened-opens o = checked-none (openChecks s) a refl o
+
+  pub opened-declines : (openRefusal s ≡ 0 → ⊥) → opened s a ≡ refused (openRefusal s)
+  unfolding opened openRefusal
+  opened-declines m = checked-some (openChecks s) a refl m
+
+-- One call that runs opening's checks on two maps; numbers stand twice in the list
+pub two-maps : (s t : List ℕ) → InOrder (openChecks s ++ openChecks t) (sizeIn t) (opened s (openOf t))
+unfolding openOf opened
+two-maps s t = in-order (openChecks s ++ openChecks t) (sizeIn t) (decided-append (openChecks s) (openChecks t) (open-decided s) (λ _. open-decided t))

@@ -18,6 +18,7 @@ use Rattle.count.specs.Below.{pick}
 use Rattle.count.proofs.Logic.{both-right}
 use Rattle.count.proofs.Search.{find-le}
 use Rattle.count.proofs.Counts.{count-le}
+use Rattle.refusals.proofs.Steps.{by-checks}
 use Rattle.words.specs.Brackets.{Bracket, opens, closes, neither, isOpens, isCloses, isFirst, isLast, inner, closer, mate, next, previous, step, back, number, first, size}
 use Rattle.words.specs.declared.family.Family.the-variants.{Round as round, Square as square}
 use Rattle.words.specs.Word.{Word, seen, crossing}
@@ -27,7 +28,7 @@ use Rattle.drawing.specs.Session.{Answer, answer, refused, valueOf, Call}
 use Rattle.drawing.specs.Book.{noSuch}
 use Rattle.drawing.proofs.Neighbours.{neighbours-le}
 use Rattle.format.specs.Bytes.{sizeIn, wordIn}
-use Rattle.format.specs.Open.{openRefusal, afterRefusal, opened}
+use Rattle.format.specs.Open.{openChecks, openRefusal, opened}
 use Rattle.format.specs.Calls.{familyOfKind, moveIn, atPlace, mapAnswer, crossOf, turnOf, turnBackOf, alongOf, pointOf, areaOf, cellsIn, isNumber, firstIn, firstOf, placesIn, sizeOf, neighboursIn, neighboursOf, joinIn, joiningOf}
 use Rattle.format.proofs.Passes.{opens-passes}
 
@@ -115,12 +116,14 @@ join-most w v (suc k) p N few l =
     go false h = h
 
 -- ---- after the checks
-own-small : (o : ℕ) (t : Bool) (x k : ℕ) → (o ≡ 0 → t ≡ true → x < 65536)
-    → valueOf (afterRefusal o (pick t (answer x) (refused k))) < 65536
-unfolding valueOf
-own-small zero true x k h = h refl refl
-own-small zero false x k h = omega arith
-own-small (suc o) t x k h = omega arith
+own-small : (s : List ℕ) (t : Bool) (x k : ℕ) → (openRefusal s ≡ 0 → t ≡ true → x < 65536)
+    → valueOf (opened s (pick t (answer x) (refused k))) < 65536
+unfolding opened openRefusal valueOf
+own-small s t x k h = by-checks (λ a. valueOf a < 65536) (openChecks s) (pick t (answer x) (refused k)) refl (λ o. own t (h o)) (λ j xs l. omega arith)
+  where
+    own : (t : Bool) → (t ≡ true → x < 65536) → valueOf (pick t (answer x) (refused k)) < 65536
+    own true h = h refl
+    own false h = omega arith
 
 module _ (s : List ℕ) where
   word-most : openRefusal s ≡ 0 → wordIn s .size ≤ 4096
@@ -128,37 +131,37 @@ module _ (s : List ℕ) where
   word-most e = omega (arith, opens-passes s e .m-most)
 
   pub move-small : (c : Call) (i : ℕ) → valueOf (mapAnswer s c i) < 65536
-  unfolding mapAnswer opened atPlace
+  unfolding mapAnswer atPlace
   move-small c i =
-      own-small (openRefusal s) (ltb 0 i && leb i (wordIn s .size)) (moveIn (wordIn s) c (pred i)) 13
+      own-small s (ltb 0 i && leb i (wordIn s .size)) (moveIn (wordIn s) c (pred i)) 13
       (λ e t.
       let l : i ≤ wordIn s .size = leb-true i (wordIn s .size) (both-right (ltb 0 i) (leb i (wordIn s .size)) t) in
       let h : wordIn s .size ≤ 4096 = word-most e in
       omega (arith, move-most (wordIn s) 4096 h c (pred i) (omega arith)))
 
   pub first-small : (c : Kind) (k : ℕ) → valueOf (firstOf s c k) < 65536
-  unfolding firstOf opened
+  unfolding firstOf
   first-small c k =
-      own-small (openRefusal s) (isNumber (sizeIn s) c k) (firstIn (wordIn s) c k) (noSuch c)
+      own-small s (isNumber (sizeIn s) c k) (firstIn (wordIn s) c k) (noSuch c)
       (λ e t. omega (arith, first-most (wordIn s) 4096 (word-most e) c k))
 
   pub size-small : (c : Kind) (k : ℕ) → valueOf (sizeOf s c k) < 65536
-  unfolding sizeOf opened
+  unfolding sizeOf
   size-small c k =
-      own-small (openRefusal s) (isNumber (sizeIn s) c k) (placesIn (wordIn s) c k) (noSuch c)
+      own-small s (isNumber (sizeIn s) c k) (placesIn (wordIn s) c k) (noSuch c)
       (λ e t. omega (arith, size-most (wordIn s) 4096 (word-most e) c k))
 
   pub neighbours-small : (k : ℕ) → valueOf (neighboursOf s k) < 65536
-  unfolding neighboursOf opened neighboursIn
+  unfolding neighboursOf neighboursIn
   neighbours-small k =
       let v : ℕ = cellsIn (sizeIn s) Kind.area in
-      own-small (openRefusal s) (isNumber (sizeIn s) Kind.area k) (neighboursIn (wordIn s) v k) 15
+      own-small s (isNumber (sizeIn s) Kind.area k) (neighboursIn (wordIn s) v k) 15
       (λ e t. omega (arith, opens-passes s e .m-most, neighbours-le (number (seen square (wordIn s))) (crossing (wordIn s)) (wordIn s .size) v k))
 
   pub joining-small : (u v : ℕ) → valueOf (joiningOf s u v) < 65536
-  unfolding joiningOf opened
+  unfolding joiningOf
   joining-small u v =
-      own-small (openRefusal s) (isNumber (sizeIn s) Kind.point u && isNumber (sizeIn s) Kind.point v)
+      own-small s (isNumber (sizeIn s) Kind.point u && isNumber (sizeIn s) Kind.point v)
       (joinIn (wordIn s) v (placesIn (wordIn s) Kind.point u) (first (seen round (wordIn s)) (wordIn s .size) u)) 14
       (λ e t.
       let h : wordIn s .size ≤ 4096 = word-most e in

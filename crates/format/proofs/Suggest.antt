@@ -5,107 +5,66 @@
 -- marks-apart     == it is 21 exactly if all that holds but the last
 -- marks-unread    == drawings with one turning list and as many marks get one refusal
 -- Assumes nothing.
-use mathlib.Core.Path.{_≡_, refl, sym, ap, _∙_}
+use mathlib.Core.Path.{_≡_, refl, ap, _∙_}
 use mathlib.Core.Logic.{_↔_}
 use mathlib.Core.Bool.{Bool, _&&_, not}
 use mathlib.Core.List.{List, [], _∷_}
 use Prim.Native.Nat.{ℕ, zero, suc, _*_, _≤_, _<_}
 use native.Mathlib.Omega.{arith}
-use lib.ListN.{length, getD}
+use lib.ListN.{length, getD, take, drop}
 use lib.Dec.{eqb, ltb, leb}
 use Rattle.count.specs.Below.{all}
 use Rattle.count.proofs.Decides.{decides-le}
+use Rattle.refusals.specs.Checks.{Check, unless, after, Hold, InOrder, Decided}
+use Rattle.refusals.proofs.Order.{each-hold, none-refuses, in-order, once, number-at}
 use Rattle.drawing.specs.Drawing.{mostEnds, Drawing, borders, ends, turn, everyBorder}
 use Rattle.drawing.specs.Checks.{lengthsFit, entriesFit, distinct, Connected, connected, PassesFour}
-use Rattle.drawing.specs.Session.{answer, refused}
 use Rattle.drawing.specs.Laid.{lent}
 use Rattle.drawing.proofs.Checks.{lengths-decides, entries-decides, distinct-decides}
 use Rattle.drawing.proofs.Labels.{connected-decides, joins-unread}
 use Rattle.drawing.proofs.Ends.{entries-permute}
-use Rattle.format.specs.Open.{unless, afterRefusal}
-use Rattle.format.specs.Refusals.{Hold, FirstFails, InOrder, bare}
-use Rattle.format.specs.Suggest.{marksChecks, MarksCheck, marksRefusal}
-use Rattle.format.proofs.Chain.{chain, Chain, each-hold, chain-zero, chain-in-order}
-
--- 21 stands last among the checks
-fifth : (i : ℕ) → i < length marksChecks → getD marksChecks i 0 ≡ 21 → i ≡ 4
-fifth zero l e = absurd (omega arith)
-fifth (suc zero) l e = absurd (omega arith)
-fifth (suc (suc zero)) l e = absurd (omega arith)
-fifth (suc (suc (suc zero))) l e = absurd (omega arith)
-fifth (suc (suc (suc (suc zero)))) l e = refl
-fifth (suc (suc (suc (suc (suc i))))) l e = absurd (omega arith)
+use Rattle.format.specs.Suggest.{marksChecks, marksRefusal}
 
 module _ (D : Drawing) (work : ℕ) where
-  tests : List Bool
-  tests = lengthsFit D ∷ leb (6 * borders D) work ∷ entriesFit D ∷ distinct D ∷ connected D ∷ []
-
-  refusal-chain : marksRefusal D work ≡ chain marksChecks tests
-  unfolding marksRefusal tests chain
-  refusal-chain = refl
-
   -- that a drawing is connected is tested where entries are in range and distinct
-  marks-chain : Chain (MarksCheck D work) marksChecks tests
-  unfolding tests
-  marks-chain = (
-    omega arith,
+  pub marks-decided : Decided (marksChecks D work)
+  marks-decided = (
     lengths-decides D,
-    λ l. (
-      omega arith,
+    λ _. (
       decides-le (6 * borders D) work,
-      λ o. (
-        omega arith,
-        entries-decides D,
-        λ r. (omega arith, distinct-decides D, λ d. (omega arith, connected-decides D (entries-permute D r d), λ c. tt)),
-      ),
+      λ _. (entries-decides D, λ r. (distinct-decides D, λ d. (connected-decides D (entries-permute D r d), λ _. tt))),
     ),
   )
 
-  pub marks-refusals : InOrder bare (MarksCheck D work) marksChecks (tt {0}) (afterRefusal (marksRefusal D work) (answer (tt {0})))
-  marks-refusals = rw refusal-chain (chain-in-order bare (MarksCheck D work) marksChecks tests (tt {0}) marks-chain)
+  pub marks-refusals : InOrder (marksChecks D work) (tt {0}) (after (marksChecks D work) (tt {0}))
+  marks-refusals = in-order (marksChecks D work) (tt {0}) marks-decided
 
-  four-hold : Hold (MarksCheck D work) marksChecks 4 → (6 * borders D ≤ work) × PassesFour D
+  four-hold : Hold (marksChecks D work) 4 → (6 * borders D ≤ work) × PassesFour D
   four-hold h = (h 1 (omega arith), record { lengths = h 0 (omega arith); range = h 2 (omega arith); entries = h 3 (omega arith) })
 
   pub marks-accepts : (marksRefusal D work ≡ 0) ↔ ((6 * borders D ≤ work) × PassesFour D × Connected D)
+  unfolding marksRefusal
   marks-accepts =
-      let P : ℕ → Type 0 = MarksCheck D work in
-      let none = chain-zero P marksChecks tests marks-chain in (
+      let cs : List Check = marksChecks D work in
+      let none = none-refuses cs marks-decided refl in (
         λ e.
-            let holds = none .0 (sym refusal-chain ∙ e) in
+            let holds = none .0 e in
             let four = four-hold (λ i l. holds i (omega arith)) in
             (four .0, four .1, holds 4 (omega arith)),
-        λ p.
-            refusal-chain
-            ∙ none .1 (each-hold P marksChecks [] (p .1 .lengths, (p .0, (p .1 .range, (p .1 .entries, (p .2, tt)))))),
+        λ p. none .1 (each-hold cs [] (p .1 .lengths, (p .0, (p .1 .range, (p .1 .entries, (p .2, tt)))))),
       )
 
   pub marks-apart : (marksRefusal D work ≡ 21) ↔ ((6 * borders D ≤ work) × PassesFour D × (Connected D → ⊥))
+  unfolding marksRefusal once
   marks-apart =
-      let P : ℕ → Type 0 = MarksCheck D work in
-      let order = marks-refusals .refuses 21 [] in (
+      let cs : List Check = marksChecks D work in
+      let last = number-at cs 4 marks-decided refl refl (omega arith) in (
         λ e.
-            let F : FirstFails P marksChecks 21 = order .0 (ap (λ k. afterRefusal k (answer (tt {0}))) e) .0 in
-            let last : F .at ≡ 4 = fifth (F .at) (F .within) (F .is) in
-            let four = four-hold (λ i l. F .before i (omega arith)) in
-            (four .0, four .1, F .fails),
-        λ p.
-            after-number (marksRefusal D work) 20
-            (order .1 (
-              record {
-                at = 4;
-                within = omega arith;
-                is = refl;
-                before = each-hold P (1 ∷ 2 ∷ 3 ∷ 4 ∷ []) (21 ∷ []) (p .1 .lengths, (p .0, (p .1 .range, (p .1 .entries, tt))));
-                fails = p .2;
-              },
-              refl,
-            )),
+            let h = last .0 e in
+            let four = four-hold (h .0) in
+            (four .0, four .1, h .1),
+        λ p. last .1 (each-hold (take 4 cs) (drop 4 cs) (p .1 .lengths, (p .0, (p .1 .range, (p .1 .entries, tt)))), p .2),
       )
-    where
-      after-number : (k j : ℕ) → afterRefusal k (answer (tt {0})) ≡ refused (suc j) → k ≡ suc j
-      after-number zero j e = cc
-      after-number (suc k) j e = cc
 
 -- ---- what is not read
 module _ (ts ms ns : List ℕ) (s t : ℕ) (same : length ms ≡ length ns) where

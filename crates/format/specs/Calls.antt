@@ -1,6 +1,8 @@
 -- Every call on map bytes, as a total function of the bytes and numbers (document 01, "Moves").
 --
 -- moveIn w c p        == the answer of the call c at position p of the word w
+-- placeChecks s i     == the checks of a call about the place i: opening's, then 13
+-- cellChecks s c k    == of a call about the point or area k: opening's, then 14 or 15
 -- mapAnswer s c i     == the call c at place i of the map s: opening's checks, 13, then the answer
 -- crossOf, turnOf, turnBackOf, alongOf, pointOf, areaOf == the six, by name
 -- mapSession s i cs   == a session on the map s
@@ -10,10 +12,11 @@
 -- joiningOf s u v     == the joining border of points u and v
 -- Assumes nothing.
 use mathlib.Core.Bool.{Bool, true, false, _&&_}
-use mathlib.Core.List.{List}
-use Prim.Native.Nat.{ℕ, zero, suc, pred, _+_, _-_}
+use mathlib.Core.List.{List, [], _∷_, _++_}
+use Prim.Native.Nat.{ℕ, zero, suc, pred, _+_, _-_, _≤_}
 use lib.Dec.{eqb, ltb, leb}
 use Rattle.count.specs.Below.{pick}
+use Rattle.refusals.specs.Checks.{Check, check}
 use Rattle.words.specs.Brackets.{step, back, number, isFirst, isLast, first, size}
 use Rattle.words.specs.declared.family.Family.{Family}
 use Rattle.words.specs.declared.family.Family.the-variants.{Round as round, Square as square}
@@ -22,8 +25,8 @@ use Rattle.drawing.specs.Drawing.{Kind}
 use Rattle.drawing.specs.Session.{Answer, answer, refused, Call, Outcome, session}
 use Rattle.drawing.specs.Neighbours.{neighbours, landings}
 use Rattle.drawing.specs.Book.{noSuch}
-use Rattle.format.specs.Bytes.{Size, areasOf, sizeIn, wordIn}
-use Rattle.format.specs.Open.{opened}
+use Rattle.format.specs.Bytes.{Size, areasOf, sizeIn, bitsA, wordIn}
+use Rattle.format.specs.Open.{openChecks, opened}
 
 -- a point is what round brackets enclose, an area is what square brackets enclose
 abbrev pub familyOfKind : Kind → Family
@@ -41,7 +44,11 @@ moveIn w Call.along p = suc (step (seen square w) (w .size) p)
 moveIn w Call.point p = number (seen round w) p
 moveIn w Call.area p = number (seen square w) p
 
--- 13: "place not 1 to 2m"
+-- 13: "place not 1 to 2m". 01: "Every call on map bytes runs 8 to 12, then its own"
+abbrev pub placeChecks : List ℕ → ℕ → List Check
+placeChecks s i =
+    openChecks s ++ (check 13 (ltb 0 i && leb i (bitsA (sizeIn s))) ((1 ≤ i) × (i ≤ bitsA (sizeIn s))) ∷ [])
+
 unfoldable pub atPlace : Word → Call → ℕ → Answer ℕ
 unfolding moveIn
 atPlace w c i = pick (ltb 0 i && leb i (w .size)) (answer (moveIn w c (pred i))) (refused 13)
@@ -86,6 +93,9 @@ cellsIn z Kind.area = areasOf z
 
 abbrev pub isNumber : Size → Kind → ℕ → Bool
 isNumber z c k = ltb 0 k && leb k (cellsIn z c)
+
+abbrev pub cellChecks : List ℕ → Kind → ℕ → List Check
+cellChecks s c k = openChecks s ++ (check (noSuch c) (isNumber (sizeIn s) c k) ((1 ≤ k) × (k ≤ cellsIn (sizeIn s) c)) ∷ [])
 
 -- 01, Moves: "First place of a point: 1 for point 1, else the place after the ( that reaches it. First place of an area: its
 -- lowest. Both are 0 if m = 0." The lowest place of a point is the place after the ( that reaches it.

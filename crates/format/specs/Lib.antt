@@ -1,7 +1,6 @@
 -- The packed map: strings, bytes, opening, and every call on map bytes. The definitions that the contracts cite.
 pub mod Bytes
 pub mod Fits
-pub mod Refusals
 pub mod Open
 pub mod Calls
 pub mod Pack

@@ -1,7 +1,6 @@
 -- Opening: checks 8, 20 and 9 to 12 on any byte string (document 01, the table; document 02, 6/14), each as a test beside the
 -- proposition that it decides.
 --
--- unless t k rest  == the number k unless the test holds, then the rest
 -- HeaderFits h, headerFits h == a header of h bytes is there, m is at most 2,048 and n is 1 to m + 1
 -- SizeFits, sizeFits       == passes 8: that of the header
 -- AreasFit, areasFit       == passes 20: the header's count of areas is m - n + 2
@@ -10,13 +9,10 @@
 -- OnesFit, onesFit         == passes 11: A has 2n - 2 ones
 -- BracketsFit, bracketsFit == passes 12: B and B* are balanced
 -- UnusedZero t k   == the bits of the string t from bit k on are 0
--- openChecks       == the numbers of these checks, in the order in which they run
--- OpenCheck s k    == s passes check k of these six; nothing is asked of another number
--- openRefusal s    == the first of them that applies to the bytes s; 0 where none does
+-- openChecks s     == these checks of the bytes s, in the order in which they run
+-- openRefusal s    == the number of the first of them that applies; 0 where none does
 -- Opens s          == s is a byte string, and none applies
 -- openOf s         == opening: m and n, or the refusal
--- afterRefusalWith k xs a == the refusal k, which carries xs, or a where k is 0
--- afterRefusal k a == the same of a refusal that carries nothing
 -- opened s a       == a call's own answer a, after opening's checks
 -- Assumes nothing.
 use mathlib.Core.Path.{_≡_}
@@ -25,18 +21,14 @@ use mathlib.Core.List.{List, [], _∷_}
 use Prim.Native.Nat.{ℕ, zero, suc, _+_, _-_, _*_, _≤_, _<_}
 use lib.ListN.{length}
 use lib.Dec.{eqb, leb}
-use Rattle.count.specs.Below.{pick}
+use Rattle.refusals.specs.Answer.{Answer, answer}
+use Rattle.refusals.specs.Checks.{Check, check, refusalIn, checked}
 use Rattle.words.specs.Brackets.{Balanced, balanced}
 use Rattle.words.specs.declared.family.Family.{Family}
 use Rattle.words.specs.declared.family.Family.the-variants.{Round as round, Square as square}
 use Rattle.bits.specs.Strings.{bit, rank, brackets, unusedZero}
 use Rattle.drawing.specs.Drawing.{mostBorders}
-use Rattle.drawing.specs.Session.{Answer, answer, refusedWith}
 use Rattle.format.specs.Bytes.{EachBelow, Size, header, areasOf, sizeIn, writtenAreas, bitsA, bitsB, mapLength, partA, partB}
-
-abbrev pub unless : Bool → ℕ → ℕ → ℕ
-unless true k rest = rest
-unless false k rest = k
 
 -- 8: "under 4 bytes, m over 2,048, or n not 1 to m+1"; 02, 6/14: "refusal 8 wants 6 bytes"
 pub record HeaderFits (h : ℕ) (s : List ℕ) : Type 0 where
@@ -104,40 +96,29 @@ bracketsFit s =
     balanced (brackets (partB round s)) (bitsB round (sizeIn s))
     && balanced (brackets (partB square s)) (bitsB square (sizeIn s))
 
-abbrev pub OpenCheck : List ℕ → ℕ → Type 0
-OpenCheck s k =
-    pick (eqb k 8) (SizeFits s)
-    (pick (eqb k 20) (AreasFit s)
-    (pick (eqb k 9) (LengthFits s)
-    (pick (eqb k 10) (UnusedFits s) (pick (eqb k 11) (OnesFit s) (pick (eqb k 12) (BracketsFit s) Unit)))))
-
 -- 01: "Checks run in table order", and 20 "between 8 and 9"
-abbrev pub openChecks : List ℕ
-openChecks = 8 ∷ 20 ∷ 9 ∷ 10 ∷ 11 ∷ 12 ∷ []
+abbrev pub openChecks : List ℕ → List Check
+openChecks s =
+    check 8 (sizeFits s) (SizeFits s)
+    ∷ check 20 (areasFit s) (AreasFit s)
+    ∷ check 9 (lengthFits s) (LengthFits s)
+    ∷ check 10 (unusedFits s) (UnusedFits s)
+    ∷ check 11 (onesFit s) (OnesFit s)
+    ∷ check 12 (bracketsFit s) (BracketsFit s)
+    ∷ []
 
 unfoldable pub openRefusal : List ℕ → ℕ
-unfolding sizeFits areasFit lengthFits unusedFits onesFit bracketsFit
-openRefusal s =
-    unless (sizeFits s) 8
-    (unless (areasFit s) 20
-    (unless (lengthFits s) 9 (unless (unusedFits s) 10 (unless (onesFit s) 11 (unless (bracketsFit s) 12 0)))))
+openRefusal s = refusalIn (openChecks s)
 
 -- 01, demand 2: a "byte string accepted on opening"
 pub record Opens (s : List ℕ) : Type 0 where
   pub bytes : EachBelow 256 s
   pub passes : openRefusal s ≡ 0
 
-abbrev pub afterRefusalWith : {A : Type 0} → ℕ → List ℕ → Answer A → Answer A
-afterRefusalWith zero xs a = a
-afterRefusalWith (suc k) xs a = refusedWith (suc k) xs
-
-abbrev pub afterRefusal : {A : Type 0} → ℕ → Answer A → Answer A
-afterRefusal k a = afterRefusalWith k [] a
-
 -- 01: "Every call on map bytes runs 8 to 12, then its own", and with them 20
 unfoldable pub opened : {A : Type 0} → List ℕ → Answer A → Answer A
-unfolding openRefusal
-opened s a = afterRefusal (openRefusal s) a
+unfolding sizeFits areasFit lengthFits unusedFits onesFit bracketsFit
+opened s a = checked (openChecks s) a
 
 -- 01: "Opening gives m and n"
 unfoldable pub openOf : List ℕ → Answer Size

@@ -4,10 +4,8 @@
 -- sizeFor D        == m and n of the drawing
 -- packedBytes D    == the bytes that packing writes for the drawing
 -- Room D w o, roomFits == passes 2: w entries of working list and o bytes of output are enough
--- packChecks       == the numbers of packing's checks, in the order in which they run
--- PackCheck D w o k == the drawing and the memory lent pass check k of 1 to 7; nothing is asked of another number
--- packRefusal D w o == the first of 1 to 7 that applies, with w entries of working list and o bytes of output lent; 0 where none does
--- packCarries D k  == the numbers that packing's refusal k carries: the first crossing with 7
+-- packChecks D w o == packing's checks in the order in which they run, with w entries of working list and o bytes of output lent
+-- packRefusal D w o == the number of the first of them that applies; 0 where none does
 -- packOf D w o     == packing: the map's bytes, or the refusal with what it carries
 -- workLeft k m old == the working list after refusal k, 0 where there is none
 -- opensBefore w p  == how many first places come before position p
@@ -21,6 +19,8 @@ use mathlib.Core.List.{List, [], _∷_}
 use Prim.Native.Nat.{ℕ, zero, suc, _+_, _*_, _/_, _≤_}
 use lib.Dec.{eqb, ltb, leb}
 use Rattle.count.specs.Below.{pick, count, find, table}
+use Rattle.refusals.specs.Answer.{Answer, answer, refused}
+use Rattle.refusals.specs.Checks.{Check, check, refusalIn, after}
 use Rattle.words.specs.Brackets.{step}
 use Rattle.words.specs.declared.family.Family.{Family}
 use Rattle.words.specs.declared.family.Family.the-variants.{Round as round, Square as square}
@@ -28,9 +28,8 @@ use Rattle.words.specs.Word.{Letter, Word, seen, crossing}
 use Rattle.bits.specs.Writes.{cleared}
 use Rattle.drawing.specs.Drawing.{Drawing, Kind, borders, ends, border, isMarked, cells, endAt, isSecond}
 use Rattle.drawing.specs.Checks.{LengthsFit, lengthsFit, InRange, inRange, Distinct, distinct, Joined, joined, FewMarks, fewMarks, Flat, crosses, firstCrossing}
-use Rattle.drawing.specs.Session.{Answer, answer, refused}
 use Rattle.format.specs.Bytes.{Size, sizeIn, longest, mapBytes, wordIn, familyBit}
-use Rattle.format.specs.Open.{unless, afterRefusalWith, opened}
+use Rattle.format.specs.Open.{opened}
 
 unfoldable pub wordOf : Drawing → Word
 unfolding ends isMarked border endAt isSecond
@@ -55,35 +54,25 @@ pub record Room (D : Drawing) (work out : ℕ) : Type 0 where
 abbrev pub roomFits : Drawing → ℕ → ℕ → Bool
 roomFits D work out = leb (6 * borders D) work && leb longest out
 
-abbrev pub PackCheck : Drawing → ℕ → ℕ → ℕ → Type 0
-PackCheck D work out k =
-    pick (eqb k 1) (LengthsFit D)
-    (pick (eqb k 2) (Room D work out)
-    (pick (eqb k 3) (InRange D)
-    (pick (eqb k 4) (Distinct D)
-    (pick (eqb k 5) (Joined D) (pick (eqb k 6) (FewMarks D) (pick (eqb k 7) (Flat D) Unit))))))
-
--- 01: "Pack uses 1 to 7", in table order
-abbrev pub packChecks : List ℕ
-packChecks = 1 ∷ 2 ∷ 3 ∷ 4 ∷ 5 ∷ 6 ∷ 7 ∷ []
+-- 01: "Pack uses 1 to 7", in table order. 02, 2/14: "Refusal 7 now carries the alternating pair". The others carry nothing.
+abbrev pub packChecks : Drawing → ℕ → ℕ → List Check
+packChecks D work out =
+    check 1 (lengthsFit D) (LengthsFit D)
+    ∷ check 2 (roomFits D work out) (Room D work out)
+    ∷ check 3 (inRange D) (InRange D)
+    ∷ check 4 (distinct D) (Distinct D)
+    ∷ check 5 (joined D) (Joined D)
+    ∷ check 6 (fewMarks D) (FewMarks D)
+    ∷ record { number = 7; carries = firstCrossing D; test = not (crosses D); holds = Flat D }
+    ∷ []
 
 unfoldable pub packRefusal : Drawing → ℕ → ℕ → ℕ
 unfolding lengthsFit borders inRange distinct joined fewMarks crosses
-packRefusal D work out =
-    unless (lengthsFit D) 1
-    (unless (roomFits D work out) 2
-    (unless (inRange D) 3
-    (unless (distinct D) 4 (unless (joined D) 5 (unless (fewMarks D) 6 (unless (not (crosses D)) 7 0))))))
-
--- 02, 2/14: "Refusal 7 now carries the alternating pair". The others carry nothing.
-abbrev pub packCarries : Drawing → ℕ → List ℕ
-packCarries D k = pick (eqb k 7) (firstCrossing D) []
+packRefusal D work out = refusalIn (packChecks D work out)
 
 unfoldable pub packOf : Drawing → ℕ → ℕ → Answer (List ℕ)
 unfolding packRefusal firstCrossing packedBytes
-packOf D work out =
-    let k : ℕ = packRefusal D work out in
-    afterRefusalWith k (packCarries D k) (answer (packedBytes D))
+packOf D work out = after (packChecks D work out) (packedBytes D)
 
 -- 01: "Pack's working list, of 16-bit numbers, is untouched by 1 to 3. After any other outcome its first 6m entries are 0 and
 -- the rest untouched."

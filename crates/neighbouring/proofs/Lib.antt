@@ -1,3 +1,2 @@
--- The neighbours of an area: laws.
-pub mod Sides
+-- The neighbours of an area: proofs.
 pub mod Counting

@@ -1,26 +1,28 @@
--- The neighbour count of an area of a map that opens, and where its walk starts.
+-- The neighbour count of an area of a map that opens, and how many areas there are in a list.
 --
 -- neighboursAt s k == the neighbour count of area k of the map s
--- Start s k f      == f is the first position of area k
+-- othersIn l c k   == how many areas other than k are among the first c entries of l
+-- Countable l c k  == those and k are areas of a largest map at most
 -- Assumes nothing.
-use mathlib.Core.Path.{_≡_}
+use mathlib.Core.Bool.{not, _&&_}
 use mathlib.Core.List.{List}
-use Prim.Native.Nat.{ℕ, _≤_}
-use Rattle.words.specs.Brackets.{inner, number}
-use Rattle.words.specs.declared.family.Family.the-variants.{Square as square}
-use Rattle.words.specs.Word.{seen}
+use Prim.Native.Nat.{ℕ, suc, _≤_, _<_}
+use lib.Dec.{eqb}
+use lib.ListN.{length, getD}
+use Rattle.count.specs.Below.{count, any}
 use Rattle.drawing.specs.Drawing.{Kind}
 use Rattle.format.specs.Bytes.{sizeIn, wordIn}
 use Rattle.format.specs.Calls.{cellsIn, neighboursIn}
-use Rattle.walking.specs.Positions.{Position}
 
 -- 02, 3/14: "the number of other areas across at least one side"
 abbrev pub neighboursAt : List ℕ → ℕ → ℕ
 neighboursAt s k = neighboursIn (wordIn s) (cellsIn (sizeIn s) Kind.area) k
 
-pub record Start (s : List ℕ) (k f : ℕ) : Type 0 where
-  pub at : Position s f
-  pub itself : inner (seen square (wordIn s)) f ≡ f
-  pub area : number (seen square (wordIn s)) f ≡ k
-  pub least : 1 ≤ k
-  pub most : k ≤ cellsIn (sizeIn s) Kind.area
+unfoldable pub othersIn : List ℕ → ℕ → ℕ → ℕ
+unfolding count any
+othersIn l c k = count (λ i. not (eqb (suc i) k) && any (λ x. eqb (getD l x 0) (suc i)) c) 2049
+
+pub record Countable (l : List ℕ) (c k : ℕ) : Type 0 where
+  pub long : c ≤ length l
+  pub own : k ≤ 2049
+  pub each : (i : ℕ) → i < c → (1 ≤ getD l i 0) × (getD l i 0 ≤ 2049)

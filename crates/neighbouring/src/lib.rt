@@ -5,10 +5,9 @@
 // Conventions. Areas count from 1; positions count from 0: position p is place p + 1. neighbours_at asks that the bytes open
 // and have such an area: whoever calls has checked.
 //
-// One loop along the area's walk, from its first place, crosses each side and flags the area that it leads to. The flags, one
-// for each area, stand on the stack. Few sides are crossed by walking through the bytes, many by looking them up in the lists
-// of the whole map that the crate `surveying` fills in one pass. The source is document 02, 3/14; the definition that the
-// contract cites is that of the crate `format`.
+// One loop goes over the areas across the sides, in the list that the crate `landing` fills, and flags each. The flags, one for
+// each area, stand on the stack. The source is document 02, 3/14; the definition that the contract cites is that of the crate
+// `format`.
 mod across;
 
 pub use across::neighbours_at;

@@ -2,7 +2,6 @@
 --
 -- inRange i n     == i is one of 1 to n
 -- in-range, out-of-range, range-has == the test and what it tests
--- after-refused, after-own == opening's number where it is not 0, else the call's own
 -- place-refused, place-zero, place-far, place-in == what `place_refusal` answers
 -- cells-points, cells-areas == how many points and areas there are
 -- number-zero-not, number-tests == whether there is a point (area) k
@@ -15,18 +14,20 @@ use Prim.Native.Nat.{ℕ, zero, suc, _+_, _-_, _<_, _≤_}
 use native.Mathlib.Omega.{arith}
 use borrow.Author.Tests.{ltb-true, leb-true, lt-ltb, le-leb}
 use lib.Dec.{ltb, leb}
+use lib.ListN.{drop}
 use Rattle.count.proofs.Logic.{both, both-left, both-right, not-both}
+use Rattle.refusals.specs.Checks.{Check}
+use Rattle.refusals.proofs.Steps.{first-stops, next-stops, next-passes}
 use Rattle.drawing.specs.Drawing.{Kind}
 use Rattle.drawing.specs.Book.{noSuch}
 use Rattle.format.specs.Bytes.{sizeIn, bitsA}
-use Rattle.format.specs.Open.{unless, openRefusal}
-use Rattle.format.specs.Calls.{cellsIn, isNumber}
+use Rattle.format.specs.Open.{openChecks, openRefusal}
+use Rattle.format.specs.Calls.{placeChecks, cellsIn, isNumber, cellChecks}
 use Rattle.opening.specs.declared.answers.Point.{Point}
 use Rattle.opening.specs.declared.answers.Area.{Area}
 use Rattle.opening.specs.declared.answers.Cell.{Cell}
 use Rattle.opening.specs.Cells.{kindOf, numberOfCell}
-use Rattle.opening.specs.Checks.{orNext, afterOpening, placeRefusal, cellRefusal}
-use Rattle.opening.proofs.Rows.{or-next-some}
+use Rattle.opening.specs.Checks.{placeRefusal, cellRefusal}
 
 unfoldable pub inRange : ℕ → ℕ → Bool
 inRange i n = ltb 0 i && leb i n
@@ -44,24 +45,18 @@ unfolding inRange
 range-has i n h = (ltb-true 0 i (both-left (ltb 0 i) (leb i n) h), leb-true i n (both-right (ltb 0 i) (leb i n) h))
 
 module _ (s : List ℕ) where
-  -- ---- opening's number, and the call's own after it
-  after-refused : (t : Bool) (n k : ℕ) → k ≡ openRefusal s → (k ≡ 0 → ⊥) → k ≡ afterOpening s t n
-  unfolding afterOpening
-  after-refused t n k e m = e ∙ or-next-some (openRefusal s) (unless t n 0) (λ z. m (e ∙ z))
-
-  after-own : (t : Bool) (n k : ℕ) → k ≡ openRefusal s → k ≡ 0 → unless t n 0 ≡ afterOpening s t n
-  unfolding afterOpening
-  after-own t n k e z = sym (ap (λ x. orNext x (unless t n 0)) (sym e ∙ z))
-
   -- ---- places
   module _ (i k : ℕ) (e : k ≡ openRefusal s) where
+    abbrev own : List Check
+    own = drop 6 (placeChecks s i)
+
     pub place-refused : (k ≡ 0 → ⊥) → k ≡ placeRefusal s i
-    unfolding placeRefusal inRange
-    place-refused m = after-refused (inRange i (bitsA (sizeIn s))) 13 k e m
+    unfolding placeRefusal openRefusal
+    place-refused m = first-stops (openChecks s) own k e m
 
     place-not : k ≡ 0 → (1 ≤ i → i ≤ bitsA (sizeIn s) → ⊥) → 13 ≡ placeRefusal s i
-    unfolding placeRefusal inRange
-    place-not z f = ap (λ t. unless t 13 0) (sym (out-of-range i (bitsA (sizeIn s)) f)) ∙ after-own (inRange i (bitsA (sizeIn s))) 13 k e z
+    unfolding placeRefusal openRefusal inRange
+    place-not z f = next-stops (openChecks s) own refl (sym e ∙ z) 0 tt (out-of-range i (bitsA (sizeIn s)) f)
 
     pub place-zero : k ≡ 0 → i ≡ 0 → 13 ≡ placeRefusal s i
     place-zero z h = place-not z (λ l g. omega arith)
@@ -70,9 +65,8 @@ module _ (s : List ℕ) where
     place-far n z hn h = place-not z (λ l g. omega arith)
 
     pub place-in : (n : ℕ) → k ≡ 0 → (i ≡ 0 → ⊥) → n ≡ bitsA (sizeIn s) → i ≤ n → 0 ≡ placeRefusal s i
-    unfolding placeRefusal inRange
-    place-in n z m hn h =
-        ap (λ t. unless t 13 0) (sym (in-range i (bitsA (sizeIn s)) m (omega arith))) ∙ after-own (inRange i (bitsA (sizeIn s))) 13 k e z
+    unfolding placeRefusal openRefusal inRange
+    place-in n z m hn h = next-passes (openChecks s) own refl (sym e ∙ z) (in-range i (bitsA (sizeIn s)) m (omega arith), tt)
 
   -- ---- points and areas
   pub cells-points : (c : Cell) (p : Point) (n : ℕ) → c ≡ Cell.Point p → n ≡ sizeIn s .n → n ≡ cellsIn (sizeIn s) (kindOf c)
@@ -92,14 +86,17 @@ module _ (s : List ℕ) where
         ap₂ leb is e ∙ ap (λ t. t && leb (numberOfCell c) (cellsIn (sizeIn s) (kindOf c))) (sym (lt-ltb 0 (numberOfCell c) (omega arith)))
 
   module _ (c : Kind) (k o : ℕ) (e : o ≡ openRefusal s) where
+    abbrev ownCell : List Check
+    ownCell = drop 6 (cellChecks s c k)
+
     pub cell-refused : (o ≡ 0 → ⊥) → o ≡ cellRefusal s c k
-    unfolding cellRefusal
-    cell-refused m = after-refused (isNumber (sizeIn s) c k) (noSuch c) o e m
+    unfolding cellRefusal openRefusal
+    cell-refused m = first-stops (openChecks s) ownCell o e m
 
     pub cell-in : (t : Bool) → o ≡ 0 → t ≡ isNumber (sizeIn s) c k → t ≡ true → 0 ≡ cellRefusal s c k
-    unfolding cellRefusal
-    cell-in t z h y = ap (λ t. unless t (noSuch c) 0) (sym y ∙ h) ∙ after-own (isNumber (sizeIn s) c k) (noSuch c) o e z
+    unfolding cellRefusal openRefusal
+    cell-in t z h y = next-passes (openChecks s) ownCell refl (sym e ∙ z) (sym h ∙ y, tt)
 
     pub cell-out : (r : ℕ) (t : Bool) → o ≡ 0 → t ≡ isNumber (sizeIn s) c k → t ≡ false → r ≡ noSuch c → r ≡ cellRefusal s c k
-    unfolding cellRefusal
-    cell-out r t z h y g = g ∙ ap (λ t. unless t (noSuch c) 0) (sym y ∙ h) ∙ after-own (isNumber (sizeIn s) c k) (noSuch c) o e z
+    unfolding cellRefusal openRefusal
+    cell-out r t z h y g = g ∙ next-stops (openChecks s) ownCell refl (sym e ∙ z) 0 tt (sym h ∙ y)

@@ -7,9 +7,6 @@
 -- unused-is, balanced-is, ones-is == what was computed of the parts is so of the map's strings
 -- unused-a-not, unused-b-not, unused-never, unused-left == 10, by the string that decides
 -- brackets-not, brackets-left == 12, by the string that decides
--- or-next-some           == the number itself, where it is not 0
--- header-8, header-20, header-9, header-none == the first check that declines, of header and length
--- first-header, first-10 .. first-12, none == of all, the number for header and length being known
 -- opens-size, opens-not  == opening gives m and n, or the number
 -- bytes-open, answer-opens == what opening accepts is a byte string that opens
 -- Assumes nothing.
@@ -24,15 +21,15 @@ use borrow.Author.Tests.{le-leb, lt-leb, not-true, not-false}
 use lib.Dec.{eqb, leb}
 use lib.ListN.{length, getD}
 use Rattle.count.proofs.Logic.{true-not-false}
+use Rattle.refusals.proofs.Steps.{answered-none}
 use Rattle.words.specs.Brackets.{balanced}
 use Rattle.words.specs.declared.family.Family.{Family}
 use Rattle.words.specs.declared.family.Family.the-variants.{Round as round, Square as square}
 use Rattle.bits.specs.Strings.{rank, brackets, unusedZero}
 use Rattle.drawing.specs.Session.{Answer, answer, refused}
 use Rattle.format.specs.Bytes.{header, Size, areasOf, sizeIn, writtenAreas, bitsA, bitsB, mapLength, partA, partB}
-use Rattle.format.specs.Open.{unless, afterRefusal, sizeFits, areasFit, lengthFits, unusedFits, onesFit, bracketsFit, openRefusal, openOf, Opens, opened}
-use Rattle.format.proofs.Chain.{after-answer}
-use Rattle.opening.specs.Checks.{headerRefusal, orNext}
+use Rattle.format.specs.Open.{sizeFits, areasFit, lengthFits, unusedFits, onesFit, bracketsFit, openChecks, openRefusal, openOf, Opens}
+use Rattle.format.proofs.Passes.{opened-opens, opened-declines}
 
 -- a test r that was computed, and the test t that it computes
 module _ (r t : Bool) (e : r ≡ t) where
@@ -41,17 +38,6 @@ module _ (r t : Bool) (e : r ≡ t) where
 
   pub fails : not r ≡ true → t ≡ false
   fails h = sym e ∙ not-true r h
-
--- one number after another
-pub or-next-some : (o k : ℕ) → (o ≡ 0 → ⊥) → o ≡ orNext o k
-or-next-some zero k m = absurd (m refl)
-or-next-some (suc o) k m = refl
-
-next-after : (a b c : Bool) (r : ℕ) → unless a 8 (unless b 20 (unless c 9 r)) ≡ orNext (unless a 8 (unless b 20 (unless c 9 0))) r
-next-after true true true r = refl
-next-after true true false r = refl
-next-after true false c r = refl
-next-after false b c r = refl
 
 -- a test of a part, by what the part is
 pub unused-is : (r : Bool) (A X : List ℕ) (a x : ℕ) → r ≡ unusedZero A a → A ≡ X → a ≡ x → r ≡ unusedZero X x
@@ -132,72 +118,19 @@ module _ (s : List ℕ) where
   unfolding bracketsFit
   brackets-left b c p h q = rw (← p, h, ← q)
 
-  -- ---- the first check that declines, of header and length
-  pub header-8 : sizeFits s ≡ false → 8 ≡ headerRefusal s
-  unfolding headerRefusal
-  header-8 a = rw a
-
-  module _ (a : sizeFits s ≡ true) where
-    pub header-20 : areasFit s ≡ false → 20 ≡ headerRefusal s
-    unfolding headerRefusal
-    header-20 f = rw (a, f)
-
-    module _ (f : areasFit s ≡ true) where
-      pub header-9 : lengthFits s ≡ false → 9 ≡ headerRefusal s
-      unfolding headerRefusal
-      header-9 b = rw (a, f, b)
-
-      pub header-none : lengthFits s ≡ true → 0 ≡ headerRefusal s
-      unfolding headerRefusal
-      header-none b = rw (a, f, b)
-
-  -- ---- the first that declines of all, after k for header and length
-  abbrev stringsRefusal : ℕ
-  stringsRefusal = unless (unusedFits s) 10 (unless (onesFit s) 11 (unless (bracketsFit s) 12 0))
-
-  module _ (k : ℕ) (e : k ≡ headerRefusal s) where
-    split : openRefusal s ≡ orNext k stringsRefusal
-    unfolding openRefusal headerRefusal
-    split = next-after (sizeFits s) (areasFit s) (lengthFits s) stringsRefusal ∙ ap (λ x. orNext x stringsRefusal) (sym e)
-
-    pub first-header : (k ≡ 0 → ⊥) → k ≡ openRefusal s
-    first-header n = or-next-some k stringsRefusal n ∙ sym split
-
-    module _ (z : k ≡ 0) where
-      strings-first : openRefusal s ≡ stringsRefusal
-      strings-first = split ∙ ap (λ x. orNext x stringsRefusal) z
-
-      pub first-10 : unusedFits s ≡ false → 10 ≡ openRefusal s
-      first-10 c = rw (strings-first, c)
-
-      module _ (c : unusedFits s ≡ true) where
-        pub first-11 : onesFit s ≡ false → 11 ≡ openRefusal s
-        first-11 d = rw (strings-first, c, d)
-
-        module _ (d : onesFit s ≡ true) where
-          pub first-12 : bracketsFit s ≡ false → 12 ≡ openRefusal s
-          first-12 b = rw (strings-first, c, d, b)
-
-          pub none : bracketsFit s ≡ true → 0 ≡ openRefusal s
-          none b = rw (strings-first, c, d, b)
-
   -- ---- opening
   pub opens-size : (k m n : ℕ) → k ≡ openRefusal s → k ≡ 0 → m ≡ sizeIn s .m → n ≡ sizeIn s .n → _≡_ {A = Answer Size} (answer (record { m = m; n = n })) (openOf s)
   unfolding openOf
-  opens-size k m n e z p q = rw (← e, z, p, q)
+  opens-size k m n e z p q = rw (p, q) (sym (opened-opens s (answer (sizeIn s)) (sym e ∙ z)))
 
   pub opens-not : (k : ℕ) → k ≡ openRefusal s → (k ≡ 0 → ⊥) → _≡_ {A = Answer Size} (refused k) (openOf s)
   unfolding openOf
-  opens-not k e n = rw (← e) (declined k n)
-    where
-      declined : (k : ℕ) → (k ≡ 0 → ⊥) → _≡_ {A = Answer Size} (refused k) (afterRefusal k (answer (sizeIn s)))
-      declined zero n = absurd (n refl)
-      declined (suc k) n = refl
+  opens-not k e n = ap refused e ∙ sym (opened-declines s (answer (sizeIn s)) (λ z. n (e ∙ z)))
 
 -- ---- what is known of a `&[u8]`: each entry is a value of its type, so that what is accepted is a byte string
 pub bytes-open : (s : List ℕ) → ((i : ℕ) → Fits w8 (getD s i 0)) → openRefusal s ≡ 0 → Opens s
 bytes-open s known e = record { bytes = λ i. known i .fits; passes = e }
 
 pub answer-opens : (s : List ℕ) → ((i : ℕ) → Fits w8 (getD s i 0)) → (z : Size) → openOf s ≡ answer z → Opens s
-unfolding openOf opened
-answer-opens s known z e = bytes-open s known (after-answer (openRefusal s) [] (sizeIn s) z e .0)
+unfolding openOf openRefusal
+answer-opens s known z e = bytes-open s known (answered-none (openChecks s) (sizeIn s) z e)

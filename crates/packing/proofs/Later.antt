@@ -1,16 +1,15 @@
 -- Checks 4 to 7: which refusal comes first, and what packing answers with it.
 --
--- later-4 .. later-none == the first of 4 to 7 that applies
--- declines         == an answer by the number of a check
+-- declines         == a return by one of the checks 4 to 6
 -- kept-same, kept-on == a working list that is as it was
 -- checked-4, checked-5, checked-6, checked-six == what the checks 4 to 6 found
 -- finish-pair, finish-none == what check 7 found
 -- Assumes nothing.
-use mathlib.Core.Path.{_≡_, sym, ap, _∙_}
+use mathlib.Core.Path.{_≡_, refl, sym, ap, ap₂, _∙_}
 use mathlib.Core.Logic.{inl, inr}
 use mathlib.Core.Bool.{Bool, true, false, not}
 use mathlib.Core.List.{List, [], _∷_}
-use Prim.Native.Nat.{ℕ, suc, _<_, _≤_}
+use Prim.Native.Nat.{ℕ, _<_, _≤_}
 use native.Mathlib.Omega.{arith}
 use borrow.Author.Tests.{le-ltb}
 use lib.ListN.{length, getD}
@@ -24,9 +23,9 @@ use Rattle.drawing.proofs.Labels.{joined-decides}
 use Rattle.drawing.proofs.Cells.{cells-some}
 use Rattle.drawing.proofs.Crossing.{crossing-in-same, no-crossing, some-crossing}
 use Rattle.drawing.proofs.Ends.{turn-permutes}
-use Rattle.format.specs.Open.{afterRefusalWith}
-use Rattle.format.specs.Pack.{packedBytes, packCarries}
-use Rattle.format.proofs.Refusals.{carries-none}
+use Rattle.refusals.specs.Checks.{checkAt}
+use Rattle.refusals.proofs.Steps.{Passed, refuses-at, answers-all}
+use Rattle.format.specs.Pack.{packedBytes}
 use Rattle.drawing.specs.Laid.{lent, laid}
 use Rattle.checking.specs.Lent.{Ranged, Differ, Turns, Kept}
 use Rattle.checking.proofs.Decided.{passes, fails}
@@ -34,44 +33,18 @@ use Rattle.checking.proofs.Laws.{ranged-from, turns-from, distinct-is}
 use Rattle.packing.specs.declared.answers.Packed.the-variants as the-case
 use Rattle.crossing.specs.declared.find.Found.{Found}
 use Rattle.crossing.specs.declared.find.Found.the-variants as the-found
-use Rattle.packing.specs.Answers.{packedMeans, lengthOf, written, laterRefusal, laterOf, PacksLater}
+use Rattle.packing.specs.Answers.{packedMeans, lengthOf, written, laterChecks, laterOf, PacksLater}
 use Rattle.crossing.specs.Finding.{foundMeans, chartTour}
 use Rattle.writing.specs.Writing.{chartBytes}
 use Rattle.packing.proofs.Charting.{Chart, chart-bytes, chart-alike}
 
-module _ (D : Drawing) where
-  later-4 : distinct D ≡ false → laterRefusal D ≡ 4
-  unfolding laterRefusal
-  later-4 a = rw a
-
-  module _ (a : distinct D ≡ true) where
-    later-5 : joined D ≡ false → laterRefusal D ≡ 5
-    unfolding laterRefusal
-    later-5 b = rw (a, b)
-
-    module _ (b : joined D ≡ true) where
-      later-6 : fewMarks D ≡ false → laterRefusal D ≡ 6
-      unfolding laterRefusal
-      later-6 c = rw (a, b, c)
-
-      module _ (c : fewMarks D ≡ true) where
-        later-7 : crosses D ≡ true → laterRefusal D ≡ 7
-        unfolding laterRefusal
-        later-7 d = rw (a, b, c, d)
-
-        later-none : crosses D ≡ false → laterRefusal D ≡ 0
-        unfolding laterRefusal
-        later-none d = rw (a, b, c, d)
-
-  later-is : (k : ℕ) → laterRefusal D ≡ k → laterOf D ≡ afterRefusalWith k (packCarries D k) (answer (packedBytes D))
-  unfolding laterOf
-  later-is k e = ap (λ j. afterRefusalWith j (packCarries D j) (answer (packedBytes D))) e
-
-  -- with a number that is not 0, and not 7
-  declines : (k : ℕ) (old : List ℕ) → k < 6 → laterRefusal D ≡ suc k → PacksLater D (packedMeans (the-case.Declined (suc k))) old old
-  declines k old l e =
-      let a : laterOf D ≡ refused (suc k) = later-is (suc k) e ∙ ap (refusedWith (suc k)) (carries-none D (suc k) (omega arith)) in
-      record { answers = sym (ap lengthOf a); output = sym (ap (λ x. written x old) a) }
+-- an early return, by check i of those after 3, which carries nothing
+declines : (D : Drawing) (i k : ℕ) (old : List ℕ) → Passed (laterChecks D) i → checkAt (laterChecks D) i .test ≡ false
+    → checkAt (laterChecks D) i .number ≡ k → checkAt (laterChecks D) i .carries ≡ [] → PacksLater D (packedMeans (the-case.Declined k)) old old
+unfolding laterOf
+declines D i k old p f n c =
+    let a : laterOf D ≡ refused k = sym (refuses-at (laterChecks D) (answer (packedBytes D)) i p f) ∙ ap₂ refusedWith n c in
+    record { answers = sym (ap lengthOf a); output = sym (ap (λ x. written x old) a) }
 
 pub kept-same : (k : ℕ) (old new : List ℕ) → new ≡ old → Kept k old new
 kept-same k old new e = record { same-length = ap length e; rest = λ i h. ap (λ l. getD l i 0) e }
@@ -89,7 +62,7 @@ module _ (ts ms : List ℕ) (s : ℕ) (F : LengthsFit (lent ts ms s)) (I : InRan
 
   module _ (r : Bool) (p : Decides r (Differ ts)) where
     pub checked-4 : not r ≡ true → (old : List ℕ) → PacksLater (lent ts ms s) (packedMeans (the-case.Declined 4)) old old
-    checked-4 h old = declines D 3 old (omega arith) (later-4 D (fails r (distinct D) (distinct-is ts ms s (F .half) r p) h))
+    checked-4 h old = declines D 0 4 old tt (fails r (distinct D) (distinct-is ts ms s (F .half) r p) h) refl refl
 
     module _ (h : not r ≡ false) where
       differ : distinct D ≡ true
@@ -108,7 +81,7 @@ module _ (ts ms : List ℕ) (s : ℕ) (F : LengthsFit (lent ts ms s)) (I : InRan
             ]
 
         pub checked-5 : n ≡ 0 → (old : List ℕ) → PacksLater (lent ts ms s) (packedMeans (the-case.Declined 5)) old old
-        checked-5 z old = declines D 4 old (omega arith) (later-5 D differ (joins-not z))
+        checked-5 z old = declines D 1 5 old (differ, tt) (joins-not z) refl refl
 
         module _ (k : n ≡ 0 → ⊥) (m : ℕ) (M : (ts : List ℕ) (s : ℕ) → m ≡ markCount (lent ts ms s)) where
           joins : joined D ≡ true
@@ -124,7 +97,7 @@ module _ (ts ms : List ℕ) (s : ℕ) (F : LengthsFit (lent ts ms s)) (I : InRan
           pub checked-6 : n ≤ m → (old : List ℕ) → PacksLater (lent ts ms s) (packedMeans (the-case.Declined 6)) old old
           unfolding fewMarks
           checked-6 l old =
-              declines D 5 old (omega arith) (later-6 D differ joins (le-ltb (markCount D) (cells D Kind.point) (omega (arith, checked-points, M ts s))))
+              declines D 2 6 old (differ, (joins, tt)) (le-ltb (markCount D) (cells D Kind.point) (omega (arith, checked-points, M ts s))) refl refl
 
           pub checked-six : m < n → PassesSix (lent ts ms s)
           checked-six l =
@@ -159,6 +132,7 @@ module _ (ts ms : List ℕ) (s : ℕ) (six : PassesSix (lent ts ms s)) where
 
     pub finish-pair : (x : Found) → foundMeans x ≡ crossingIn (chartTour ms w) → (a b : ℕ) → x ≡ the-found.Pair a b
         → (old : List ℕ) → PacksLater (lent ts ms s) (packedMeans (the-case.Crossing a b)) old old
+    unfolding laterOf
     finish-pair x Y a b f old =
         let is : a ∷ b ∷ [] ≡ firstCrossing G = sym (ap foundMeans f) ∙ found-is x Y in
         let t : crosses G ≡ true =
@@ -166,13 +140,15 @@ module _ (ts ms : List ℕ) (s : ℕ) (six : PassesSix (lent ts ms s)) where
           | inl t ↦ t
           | inr z ↦ (let none : _≡_ {A = ℕ} 2 0 = ap length (is ∙ no-crossing G z) in absurd (omega arith))
         ] in
-        let e : laterOf G ≡ refusedWith 7 (a ∷ b ∷ []) = later-is G 7 (later-7 G four five few t) ∙ ap (refusedWith 7) (sym is) in
+        let e : laterOf G ≡ refusedWith 7 (a ∷ b ∷ [])
+        = sym (refuses-at (laterChecks G) (answer (packedBytes G)) 3 (four, (five, (few, tt))) (ap not t)) ∙ ap (refusedWith 7) (sym is) in
         record { answers = sym (ap lengthOf e); output = sym (ap (λ x. written x old) e) }
 
     pub finish-none : (x : Found) → foundMeans x ≡ crossingIn (chartTour ms w) → x ≡ the-found.Nothing → (n : ℕ) → n ≡ cells (lent ts ms s) Kind.point
         → (v : List ℕ) → Chart (lent ts ms s) v → (r : ℕ) (old new : List ℕ)
         → r ≡ length (chartBytes n ms v) → new ≡ laid (chartBytes n ms v) old
         → PacksLater (lent ts ms s) (packedMeans (the-case.Length r)) old new
+    unfolding laterOf
     finish-none x Y f n e v K r old new p q =
         let is : [] ≡ firstCrossing G = sym (ap foundMeans f) ∙ found-is x Y in
         let t : crosses G ≡ false =
@@ -180,7 +156,8 @@ module _ (ts ms : List ℕ) (s : ℕ) (six : PassesSix (lent ts ms s)) where
           | inl c ↦ (let two : _≡_ {A = ℕ} 0 2 = ap length is ∙ some-crossing G c in absurd (omega arith))
           | inr z ↦ z
         ] in
-        let a = later-is G 0 (later-none G four five few t) in
+        let a : laterOf G ≡ answer (packedBytes G)
+        = sym (answers-all (laterChecks G) (answer (packedBytes G)) (four, (five, (few, (ap not t, tt))))) in
         let b = chart-bytes ts ms s six v K n e in
         record {
           answers = ap answer (p ∙ ap length b) ∙ sym (ap lengthOf a);

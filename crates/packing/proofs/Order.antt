@@ -1,87 +1,48 @@
 -- The order of the checks: the first of 1 to 3 that applies, and packing's answer.
 --
--- first-1 .. first-later == the first refusal of all
--- early            == an answer by the number of one of checks 1 to 3
+-- early            == a return by one of checks 1 to 3
 -- pack-1, pack-long, pack-short, pack-3 == the first of 1 to 3 that applies
 -- pack-range       == check 3 passed
 -- pack-done        == their answer is packing's
 -- Assumes nothing.
-use mathlib.Core.Path.{_≡_, refl, sym, ap, _∙_}
-use mathlib.Core.Bool.{Bool, true, false, not, _&&_}
-use mathlib.Core.List.{List}
+use mathlib.Core.Path.{_≡_, refl, sym, ap, ap₂, _∙_}
+use mathlib.Core.Bool.{Bool, true, false, not}
+use mathlib.Core.List.{List, []}
 use Prim.Native.Nat.{ℕ, suc, _*_, _<_, _≤_}
 use native.Mathlib.Omega.{arith}
 use borrow.Author.Tests.{le-leb, lt-leb, lt-ltb}
-use lib.Dec.{ltb, leb}
-use lib.ListN.{length}
-use Rattle.count.specs.Below.{pick}
+use lib.ListN.{length, take}
+use Rattle.refusals.specs.Answer.{Answer, answer, refusedWith, refused}
+use Rattle.refusals.specs.Checks.{Check, checkAt}
+use Rattle.refusals.proofs.Steps.{Passed, stops-at, refuses-at, by-numbers, goes-on, goes-on-with}
 use Rattle.bits.specs.Writes.{cleared}
 use Rattle.drawing.specs.Drawing.{Drawing, borders}
-use Rattle.drawing.specs.Checks.{InRange, lengthsFit, inRange, distinct, joined, fewMarks, crosses}
-use Rattle.drawing.specs.Session.{Answer, answer, refusedWith, refused}
+use Rattle.drawing.specs.Checks.{InRange, lengthsFit, inRange}
 use Rattle.drawing.proofs.Checks.{range-decides}
 use Rattle.format.specs.Bytes.{longest}
-use Rattle.format.specs.Open.{unless, afterRefusalWith}
-use Rattle.format.specs.Pack.{packedBytes, packRefusal, packCarries, packOf, workLeft}
-use Rattle.format.proofs.Refusals.{carries-none}
+use Rattle.format.specs.Pack.{packedBytes, roomFits, packChecks, packRefusal, packOf, workLeft}
 use Rattle.drawing.specs.Laid.{lent}
 use Rattle.checking.specs.Lent.{Kept}
 use Rattle.packing.specs.declared.answers.Packed.the-variants as the-case
-use Rattle.packing.specs.Answers.{packedMeans, lengthOf, written, laterRefusal, laterOf, Packs, PacksLater}
+use Rattle.packing.specs.Answers.{packedMeans, lengthOf, written, laterChecks, laterOf, Packs, PacksLater}
 use Rattle.checking.proofs.Decided.{passes, fails}
 use Rattle.checking.proofs.Working.{cleared-again}
 
-module _ (D : Drawing) (w o : ℕ) where
-  first-1 : lengthsFit D ≡ false → packRefusal D w o ≡ 1
-  unfolding packRefusal
-  first-1 a = rw a
-
-  module _ (a : lengthsFit D ≡ true) where
-    first-long : w < 6 * borders D → packRefusal D w o ≡ 2
-    unfolding packRefusal
-    first-long l = rw (a, lt-leb (6 * borders D) w l)
-
-    module _ (l : 6 * borders D ≤ w) where
-      first-short : o < longest → packRefusal D w o ≡ 2
-      unfolding packRefusal
-      first-short k = rw (a, le-leb (6 * borders D) w l, lt-leb longest o k)
-
-      module _ (k : longest ≤ o) where
-        first-3 : inRange D ≡ false → packRefusal D w o ≡ 3
-        unfolding packRefusal
-        first-3 b = rw (a, le-leb (6 * borders D) w l, le-leb longest o k, b)
-
-        first-later : inRange D ≡ true → packRefusal D w o ≡ laterRefusal D
-        unfolding packRefusal laterRefusal
-        first-later b = rw (a, le-leb (6 * borders D) w l, le-leb longest o k, b)
-
-  pack-is : (k : ℕ) → packRefusal D w o ≡ k → packOf D w o ≡ afterRefusalWith k (packCarries D k) (answer (packedBytes D))
-  unfolding packOf
-  pack-is k e = ap (λ j. afterRefusalWith j (packCarries D j) (answer (packedBytes D))) e
-
-early : (D : Drawing) (work out : List ℕ) (k : ℕ) → k < 3 → packRefusal D (length work) (length out) ≡ suc k
+-- an early return, by check i: one of 1 to 3
+early : (D : Drawing) (work out : List ℕ) (i k : ℕ) → let cs : List Check = packChecks D (length work) (length out) in
+    Passed cs i → checkAt cs i .test ≡ false → checkAt cs i .number ≡ suc k → checkAt cs i .carries ≡ [] → k < 3
     → Packs D work work out out (packedMeans (the-case.Declined (suc k)))
-early D work out k l e =
-    let a : packOf D (length work) (length out) ≡ refused (suc k)
-    = pack-is D (length work) (length out) (suc k) e ∙ ap (refusedWith (suc k)) (carries-none D (suc k) (omega arith)) in
+unfolding packRefusal packOf
+early D work out i k p f n c l =
+    let cs : List Check = packChecks D (length work) (length out) in
+    let e : packRefusal D (length work) (length out) ≡ suc k = sym (stops-at cs i p f) ∙ n in
+    let a : packOf D (length work) (length out) ≡ refused (suc k) = sym (refuses-at cs (answer (packedBytes D)) i p f) ∙ ap₂ refusedWith n c in
     let t : workLeft (suc k) (borders D) work ≡ work
     = rw (lt-ltb 0 (suc k) (omega arith), le-leb (suc k) 3 (omega arith)) in
     record {
       answers = sym (ap lengthOf a);
       leaves = record { working = sym (ap (λ j. workLeft j (borders D) work) e ∙ t); output = sym (ap (λ x. written x out) a) };
     }
-
--- a number of 4 to 7, or none
-late-number : (a b c d : Bool) → ltb 0 (unless a 4 (unless b 5 (unless c 6 (unless d 7 0)))) && leb (unless a 4 (unless b 5 (unless c 6 (unless d 7 0)))) 3 ≡ false
-late-number false b c d = refl
-late-number true false c d = refl
-late-number true true false d = refl
-late-number true true true false = refl
-late-number true true true true = refl
-
-late-left : (D : Drawing) (m : ℕ) (work : List ℕ) → workLeft (laterRefusal D) m work ≡ cleared (6 * m) work
-unfolding laterRefusal
-late-left D m work = ap (λ t. pick t work (cleared (6 * m) work)) (late-number (distinct D) (joined D) (fewMarks D) (not (crosses D)))
 
 pub pack-range : (ts ms : List ℕ) (s : ℕ) (q : Bool) → q ≡ inRange (lent ts ms s) → not q ≡ false → InRange (lent ts ms s)
 pack-range ts ms s q g b = range-decides (lent ts ms s) .sound (passes q (inRange (lent ts ms s)) g b)
@@ -92,7 +53,7 @@ module _ (ts ms : List ℕ) (s : ℕ) (old work : List ℕ) where
 
   module _ (r : Bool) (p : (s : ℕ) → r ≡ lengthsFit (lent ts ms s)) where
     pub pack-1 : not r ≡ true → Packs (lent ts ms s) work work old old (packedMeans (the-case.Declined 1))
-    pack-1 h = early E work old 0 (omega arith) (first-1 E (length work) (length old) (fails r (lengthsFit E) (p s) h))
+    pack-1 h = early E work old 0 0 tt (fails r (lengthsFit E) (p s) h) refl refl (omega arith)
 
     module _ (h : not r ≡ false) where
       fit : lengthsFit E ≡ true
@@ -100,34 +61,39 @@ module _ (ts ms : List ℕ) (s : ℕ) (old work : List ℕ) where
 
       pub pack-long : length work < 6 * length ms → Packs (lent ts ms s) work work old old (packedMeans (the-case.Declined 2))
       unfolding borders
-      pack-long l = early E work old 1 (omega arith) (first-long E (length work) (length old) fit l)
+      pack-long l = early E work old 1 1 (fit, tt) (rw (lt-leb (6 * length ms) (length work) l)) refl refl (omega arith)
 
       module _ (l : 6 * length ms ≤ length work) where
         pub pack-short : length old < longest → Packs (lent ts ms s) work work old old (packedMeans (the-case.Declined 2))
         unfolding borders
-        pack-short k = early E work old 1 (omega arith) (first-short E (length work) (length old) fit l k)
+        pack-short k =
+            early E work old 1 1 (fit, tt) (rw (le-leb (6 * length ms) (length work) l, lt-leb longest (length old) k)) refl refl (omega arith)
 
         module _ (k : longest ≤ length old) (q : Bool) (g : q ≡ inRange (lent ts ms s)) where
-          pub pack-3 : not q ≡ true → Packs (lent ts ms s) work work old old (packedMeans (the-case.Declined 3))
+          room : roomFits E (length work) (length old) ≡ true
           unfolding borders
-          pack-3 b = early E work old 2 (omega arith) (first-3 E (length work) (length old) fit l k (fails q (inRange E) g b))
+          room = rw (le-leb (6 * length ms) (length work) l, le-leb longest (length old) k)
+
+          pub pack-3 : not q ≡ true → Packs (lent ts ms s) work work old old (packedMeans (the-case.Declined 3))
+          pack-3 b = early E work old 2 2 (fit, (room, tt)) (fails q (inRange E) g b) refl refl (omega arith)
 
           module _ (b : not q ≡ false) where
             pub pack-done : (u v x : List ℕ) → u ≡ cleared (6 * length ms) work → Kept (6 * length ms) u v → x ≡ cleared (6 * length ms) v
                 → (a : Answer ℕ) (new : List ℕ) → PacksLater (lent ts ms s) a old new → Packs (lent ts ms s) work x old new a
-            unfolding borders laterOf packOf
+            unfolding borders packRefusal laterOf packOf
             pack-done u v x e K f a new P =
-                let later : packRefusal E (length work) (length old) ≡ laterRefusal E
-                = first-later E (length work) (length old) fit l k (passes q (inRange E) g b) in
-                let same : packOf E (length work) (length old) ≡ laterOf E = ap (λ j. afterRefusalWith j (packCarries E j) (answer (packedBytes E))) later in
+                let first : List Check = take 3 (packChecks E (length work) (length old)) in
+                let p : Passed first 3 = (fit, (room, (passes q (inRange E) g b, tt))) in
+                let same : packOf E (length work) (length old) ≡ laterOf E = goes-on-with first (laterChecks E) (answer (packedBytes E)) p in
+                -- a number of 4 to 7, or none, leaves zeros
+                let left : workLeft (packRefusal E (length work) (length old)) (length ms) work ≡ cleared (6 * length ms) work
+                = rw (goes-on first (laterChecks E) p)
+                (by-numbers (λ j. workLeft j (length ms) work ≡ cleared (6 * length ms) work) (laterChecks E) (refl, (refl, (refl, (refl, refl))))) in
                 record {
                   answers = P .answers ∙ sym (ap lengthOf same);
                   leaves =
                       record {
-                        working =
-                            f
-                            ∙ cleared-again (6 * length ms) work v (rw e at K)
-                            ∙ sym (ap (λ j. workLeft j (length ms) work) later ∙ late-left E (length ms) work);
+                        working = f ∙ cleared-again (6 * length ms) work v (rw e at K) ∙ sym left;
                         output = P .output ∙ sym (ap (λ y. written y old) same);
                       };
                 }

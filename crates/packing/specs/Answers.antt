@@ -5,21 +5,18 @@
 -- written a old    == the output after the answer a
 -- PackLeaves D work work' out out' == packing the drawing D makes work' of the working list and out' of the output
 -- Packs D work work' out out' p == and p is what it answers
--- laterRefusal D   == the first of 4 to 7 that applies; 0 where none does
+-- laterChecks D    == the checks after 3
 -- laterOf D        == packing after checks 1 to 3
 -- PacksLater D p old new == p is the answer then, and the output old becomes new
 -- Assumes nothing.
 use mathlib.Core.Path.{_≡_}
-use mathlib.Core.Bool.{not}
 use mathlib.Core.List.{List, [], _∷_}
 use Prim.Native.Nat.{ℕ}
-use lib.ListN.{length}
+use lib.ListN.{length, drop}
+use Rattle.refusals.specs.Answer.{Answer, answer, refusedWith, refused, laid}
+use Rattle.refusals.specs.Checks.{Check, after}
 use Rattle.drawing.specs.Drawing.{Drawing, borders}
-use Rattle.drawing.specs.Checks.{distinct, joined, fewMarks, crosses, firstCrossing}
-use Rattle.drawing.specs.Session.{Answer, answer, refusedWith, refused}
-use Rattle.drawing.specs.Laid.{laid}
-use Rattle.format.specs.Open.{unless, afterRefusalWith}
-use Rattle.format.specs.Pack.{packedBytes, packRefusal, packCarries, packOf, workLeft}
+use Rattle.format.specs.Pack.{packedBytes, packChecks, packRefusal, packOf, workLeft}
 use Rattle.packing.specs.declared.answers.Packed.{Packed}
 use Rattle.packing.specs.declared.answers.Packed.the-variants as the-case
 
@@ -46,13 +43,12 @@ pub record Packs (D : Drawing) (work work' out out' : List ℕ) (p : Answer ℕ)
   pub answers : p ≡ lengthOf (packOf D (length work) (length out))
   pub leaves : PackLeaves D work work' out out'
 
-unfoldable pub laterRefusal : Drawing → ℕ
-unfolding distinct joined fewMarks crosses
-laterRefusal D = unless (distinct D) 4 (unless (joined D) 5 (unless (fewMarks D) 6 (unless (not (crosses D)) 7 0)))
+-- whatever the memory lent: it is asked by 2 alone
+abbrev pub laterChecks : Drawing → List Check
+laterChecks D = drop 3 (packChecks D 0 0)
 
 unfoldable pub laterOf : Drawing → Answer (List ℕ)
-unfolding laterRefusal firstCrossing packedBytes
-laterOf D = afterRefusalWith (laterRefusal D) (packCarries D (laterRefusal D)) (answer (packedBytes D))
+laterOf D = after (laterChecks D) (packedBytes D)
 
 pub record PacksLater (D : Drawing) (p : Answer ℕ) (old new : List ℕ) : Type 0 where
   pub answers : p ≡ lengthOf (laterOf D)

@@ -4,22 +4,18 @@
 -- Assumes nothing.
 use mathlib.Core.Path.{_≡_, refl}
 use mathlib.Core.List.{List}
-use Prim.Native.Nat.{ℕ, zero, suc, _<_}
+use Prim.Native.Nat.{ℕ, _<_}
 use native.Mathlib.Omega.{arith}
+use Rattle.refusals.proofs.Steps.{by-checks}
 use Rattle.drawing.specs.Session.{answer, valueOf}
-use Rattle.format.specs.Bytes.{Size, sizeIn}
-use Rattle.format.specs.Open.{openRefusal, afterRefusal, opened, openOf}
+use Rattle.format.specs.Bytes.{sizeIn}
+use Rattle.format.specs.Open.{openChecks, openRefusal, openOf}
 use Rattle.format.proofs.Passes.{opens-passes}
 use Rattle.giving.specs.Cells.{bordersGiven, pointsGiven}
 
-given-small : (o : ℕ) (z : Size) → (o ≡ 0 → (z .m < 65536) × (z .n < 65536))
-    → (valueOf (bordersGiven (afterRefusal o (answer z))) < 65536) × (valueOf (pointsGiven (afterRefusal o (answer z))) < 65536)
-unfolding valueOf
-given-small zero z h = h refl
-given-small (suc o) z h = (omega arith, omega arith)
-
 pub open-small : (s : List ℕ) → (valueOf (bordersGiven (openOf s)) < 65536) × (valueOf (pointsGiven (openOf s)) < 65536)
-unfolding openOf opened
+unfolding openOf openRefusal valueOf
 open-small s =
-    given-small (openRefusal s) (sizeIn s)
+    by-checks (λ a. (valueOf (bordersGiven a) < 65536) × (valueOf (pointsGiven a) < 65536)) (openChecks s) (answer (sizeIn s)) refl
     (λ e. (omega (arith, opens-passes s e .m-most), omega (arith, opens-passes s e .m-most, opens-passes s e .n-most)))
+    (λ k xs l. (omega arith, omega arith))

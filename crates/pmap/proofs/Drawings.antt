@@ -22,17 +22,19 @@ use Rattle.count.specs.Below.{pick}
 use Rattle.count.proofs.Counts.{count-le}
 use Rattle.count.proofs.Lists.{table-length, gather-length}
 use Rattle.count.proofs.Logic.{true-or-false}
+use Rattle.refusals.specs.Checks.{check}
+use Rattle.refusals.proofs.Steps.{stops-at, number-after, by-numbers, none-append, by-checks, answered-all}
 use Rattle.words.specs.declared.family.Family.{Family}
 use Rattle.words.specs.declared.family.Family.the-variants.{Round as round, Square as square}
 use Rattle.words.specs.Word.{sameFamily, Word}
 use Rattle.bits.specs.Strings.{bytesFor}
 use Rattle.drawing.specs.Drawing.{Drawing, borders, ends}
-use Rattle.drawing.specs.Checks.{LengthsFit, lengthsFit, inRange, distinct, joined, fewMarks, crosses, smallerFirst, FirstCrossing}
+use Rattle.drawing.specs.Checks.{LengthsFit, lengthsFit, smallerFirst, FirstCrossing}
 use Rattle.drawing.specs.Session.{Answer, answer, refusedWith, refused, numberOf, carriedBy, valueOf}
 use Rattle.drawing.proofs.Checks.{lengths-decides}
 use Rattle.format.specs.Bytes.{sizeIn, wordIn, familyBit, closingBit, stringA, stringB, bytesOf, mapBytes}
-use Rattle.format.specs.Open.{unless, afterRefusalWith, afterRefusal, openRefusal, opened}
-use Rattle.format.specs.Pack.{wordOf, roomFits, packedBytes, packRefusal, packCarries, packOf, positionIn, drawingOf, unpackOf}
+use Rattle.format.specs.Open.{openChecks, openRefusal}
+use Rattle.format.specs.Pack.{wordOf, packedBytes, packChecks, packRefusal, packOf, positionIn, drawingOf, unpackOf}
 use Rattle.format.proofs.Bits.{bytes-of-length}
 use Rattle.format.proofs.Passes.{opens-passes}
 use Rattle.format.proofs.Refusals.{pack-crosses}
@@ -73,16 +75,6 @@ bytes-small D fit =
     )
 
 -- ---- what packing answers
--- a chain of checks has no number beyond the largest
-unless-most : (N : ℕ) (t : Bool) (k rest : ℕ) → k ≤ N → rest ≤ N → unless t k rest ≤ N
-unless-most N true k rest h l = l
-unless-most N false k rest h l = h
-
-number-told : (k : ℕ) (xs s : List ℕ) → numberOf (afterRefusalWith k xs (answer s)) ≡ k
-unfolding numberOf
-number-told zero xs s = refl
-number-told (suc k) xs s = refl
-
 number-length : (a : Answer (List ℕ)) → numberOf (lengthOf a) ≡ numberOf a
 unfolding numberOf
 number-length (answer s) = refl
@@ -93,9 +85,9 @@ unfolding carriedBy
 carried-length (answer s) = refl
 carried-length (refusedWith k xs) = refl
 
-length-told : (k : ℕ) (xs s : List ℕ) (l : ℕ) → answer l ≡ lengthOf (afterRefusalWith k xs (answer s)) → l ≡ length s
-length-told zero xs s l e = cc
-length-told (suc k) xs s l e = let z : _≡_ {A = ℕ} 0 1 = cc in absurd (omega arith)
+length-told : (a : Answer (List ℕ)) (l : ℕ) → answer l ≡ lengthOf a → (s : List ℕ) × (a ≡ answer s) × (l ≡ length s)
+length-told (answer s) l e = (s, refl, cc)
+length-told (refusedWith k xs) l e = let z : _≡_ {A = ℕ} 0 1 = cc in absurd (omega arith)
 
 -- the status and the two numbers above it, as they are read from the number that is returned
 record Read (r : ℕ) (a : Answer ℕ) : Type 0 where
@@ -118,36 +110,31 @@ module _ (D : Drawing) (w o : ℕ) where
   number-most : packRefusal D w o ≤ 7
   unfolding packRefusal
   number-most =
-      let U = unless-most 7 in
-      U (lengthsFit D) 1 _ (omega arith)
-      (U (roomFits D w o) 2 _ (omega arith)
-      (U (inRange D) 3 _ (omega arith)
-      (U (distinct D) 4 _ (omega arith)
-      (U (joined D) 5 _ (omega arith) (U (fewMarks D) 6 _ (omega arith) (U (not (crosses D)) 7 0 (omega arith) (omega arith)))))))
+      by-numbers (λ k. k ≤ 7) (packChecks D w o)
+      (omega arith, (omega arith, (omega arith, (omega arith, (omega arith, (omega arith, (omega arith, omega arith)))))))
 
   pack-lengths : packRefusal D w o ≢ 1 → LengthsFit D
   unfolding packRefusal
   pack-lengths n =
       elim (true-or-false (lengthsFit D)) [
         | inl t ↦ lengths-decides D .sound t
-        | inr f ↦ absurd (n (rw f))
+        | inr f ↦ absurd (n (sym (stops-at (packChecks D w o) 0 tt f)))
       ]
 
   -- what packing says
   pack-number : (a : Answer ℕ) → a ≡ lengthOf (packOf D w o) → numberOf a ≡ packRefusal D w o
-  unfolding packOf
-  pack-number a e =
-      ap numberOf e
-      ∙ number-length (packOf D w o)
-      ∙ number-told (packRefusal D w o) (packCarries D (packRefusal D w o)) (packedBytes D)
+  unfolding packOf packRefusal
+  pack-number a e = ap numberOf e ∙ number-length (packOf D w o) ∙ number-after (packChecks D w o) (packedBytes D)
 
   length-small : (l : ℕ) → answer l ≡ lengthOf (packOf D w o) → l < 65536
   unfolding packOf numberOf
   length-small l e =
       let n = pack-number (answer l) e in
+      let t = length-told (packOf D w o) l e in
       omega (
         arith,
-        length-told (packRefusal D w o) (packCarries D (packRefusal D w o)) (packedBytes D) l e,
+        t .2,
+        ap length (answered-all (packChecks D w o) (packedBytes D) (t .0) (t .1) .1),
         bytes-small D (pack-lengths (λ one. omega arith)),
       )
 
@@ -201,20 +188,15 @@ unfolding numberOf
 number-borders (answer D) = refl
 number-borders (refusedWith k xs) = refl
 
-borders-small : (o : ℕ) (t : Bool) (D : Drawing) → (o ≡ 0 → borders D < 65536)
-    → valueOf (bordersOf (afterRefusal o (pick t (answer D) (refused 16)))) < 65536
-unfolding valueOf
-borders-small zero true D h = h refl
-borders-small zero false D h = omega arith
-borders-small (suc o) t D h = omega arith
-
 module _ (s : List ℕ) (t k : ℕ) where
   pub unpack-small : (a : Answer ℕ) → a ≡ bordersOf (unpackOf s t k) → valueOf a < 65536
-  unfolding unpackOf opened drawingOf wordIn borders
+  unfolding unpackOf openRefusal drawingOf wordIn borders valueOf
   unpack-small a e =
       rw e
-      (borders-small (openRefusal s) (leb (2 * sizeIn s .m) t && leb (sizeIn s .m) k) (drawingOf (wordIn s))
-      (λ z. omega (arith, opens-passes s z .m-most, table-length (λ e. familyBit (wordIn s .letter (positionIn (wordIn s) (2 * e)) .family)) (wordIn s .size / 2))))
+      (by-checks (λ a. valueOf (bordersOf a) < 65536)
+      (openChecks s ++ (check 16 (leb (2 * sizeIn s .m) t && leb (sizeIn s .m) k) Unit ∷ [])) (answer (drawingOf (wordIn s))) refl
+      (λ q. let z = none-append (openChecks s) (check 16 (leb (2 * sizeIn s .m) t && leb (sizeIn s .m) k) Unit ∷ []) refl q .0 in omega (arith, opens-passes s z .m-most, table-length (λ e. familyBit (wordIn s .letter (positionIn (wordIn s) (2 * e)) .family)) (wordIn s .size / 2)))
+      (λ j xs l. omega arith))
 
   pub unpack-status : (r : ℕ) (a : Answer ℕ) → r ≡ numberOf a → a ≡ bordersOf (unpackOf s t k) → r ≡ numberOf (unpackOf s t k)
   unpack-status r a h e = h ∙ ap numberOf e ∙ number-borders (unpackOf s t k)

@@ -7,7 +7,8 @@ use mathlib.Core.Path.{_≡_, sym, ap, _∙_}
 use mathlib.Core.List.{List}
 use Prim.Native.Nat.{ℕ}
 use Rattle.drawing.specs.Session.{answer}
-use Rattle.format.specs.Open.{openRefusal, afterRefusal, opened}
+use Rattle.format.specs.Open.{openRefusal, opened}
+use Rattle.format.proofs.Passes.{opened-opens}
 use Rattle.text.specs.Listing.{refusedLine, shown}
 use Rattle.text.proofs.Shown.{shown-line}
 use Rattle.printing.specs.Writing.{Wrote}
@@ -15,16 +16,12 @@ use Rattle.printing.proofs.Stands.{Stands, wrote-stands, stands-as}
 
 -- f makes the text of a map, and k is opening's number for the bytes s
 module _ (f : List ℕ → List ℕ) (s : List ℕ) (k : ℕ) (e : k ≡ openRefusal s) where
-  shown-by : shown f (opened s (answer s)) ≡ shown f (afterRefusal k (answer s))
-  unfolding opened
-  shown-by = ap (λ o. shown f (afterRefusal o (answer s))) (sym e)
-
   text-is : k ≡ 0 → shown f (opened s (answer s)) ≡ f s
   unfolding shown
-  text-is z = shown-by ∙ ap (λ o. shown f (afterRefusal o (answer s))) z
+  text-is z = ap (shown f) (opened-opens s (answer s) (sym e ∙ z))
 
   line-is : (k ≡ 0 → ⊥) → shown f (opened s (answer s)) ≡ refusedLine k
-  line-is m = shown-by ∙ shown-line f s k m
+  line-is m = shown-line f s (λ z. m (e ∙ z)) ∙ ap refusedLine (sym e)
 
   module _ (old new : List ℕ) (r : ℕ) where
     pub shown-refused : (k ≡ 0 → ⊥) → Stands (refusedLine k) r old new → Stands (shown f (opened s (answer s))) r old new

@@ -11,29 +11,28 @@ use mathlib.Core.List.{List, [], _∷_}
 use Prim.Native.Nat.{ℕ, _*_, _≤_}
 use native.Mathlib.Omega.{arith}
 use lib.Dec.{leb}
-use lib.ListN.{length, take}
+use lib.ListN.{length, take, drop}
 use borrow.Author.Tests.{le-leb}
 use Rattle.count.proofs.Logic.{both}
+use Rattle.count.specs.Below.{pick}
+use Rattle.refusals.specs.Checks.{Check, after}
+use Rattle.refusals.proofs.Steps.{tests-passed, answered-all, answered-none, checked-same}
 use Rattle.drawing.specs.Drawing.{Drawing, borders}
-use Rattle.drawing.specs.Checks.{lengthsFit, inRange, distinct, joined, fewMarks, crosses}
-use Rattle.drawing.specs.Session.{answer, refusedWith}
+use Rattle.drawing.specs.Checks.{lengthsFit}
+use Rattle.drawing.specs.Session.{Answer, answer, refusedWith, refused}
 use Rattle.drawing.proofs.Checks.{lengths-decides}
 use Rattle.format.specs.Bytes.{longest}
-use Rattle.format.specs.Open.{unless, openRefusal, afterRefusalWith, afterRefusal, opened}
-use Rattle.format.specs.Pack.{roomFits, packedBytes, packRefusal, packCarries, packOf}
+use Rattle.format.specs.Open.{openRefusal}
+use Rattle.format.proofs.Passes.{opened-opens}
+use Rattle.format.specs.Pack.{roomFits, packedBytes, packChecks, packRefusal, packOf}
 use Rattle.text.specs.Listing.{refusedLine, listed, packed}
 use Rattle.packing.specs.Answers.{packedMeans, lengthOf, written}
 use Rattle.packing.specs.declared.answers.Packed.{Packed}
 use Rattle.packing.specs.declared.answers.Packed.the-variants as the-case
 use Rattle.packing.proofs.Outcomes.{accepted, declined}
 use Rattle.agreement.proofs.Passed.{packed-opens}
-use Rattle.format.proofs.Chain.{after-answer}
 use Rattle.format.proofs.Refusals.{pack-accepts}
 use Rattle.listing.specs.Printed.{printed}
-
-unless-same : (t : Bool) (k x y : ℕ) → (t ≡ true → x ≡ y) → unless t k x ≡ unless t k y
-unless-same true k x y h = h refl
-unless-same false k x y h = refl
 
 module _ (D : Drawing) (work out : ℕ) (long : 12288 ≤ work) (wide : longest ≤ out) where
   room-fits : (w o : ℕ) → 6 * borders D ≤ w → longest ≤ o → roomFits D w o ≡ true
@@ -46,17 +45,20 @@ module _ (D : Drawing) (work out : ℕ) (long : 12288 ≤ work) (wide : longest 
   pub room-enough : packOf D work out ≡ packed (answer D)
   unfolding packed packOf packRefusal
   room-enough =
-      let rest : ℕ = unless (inRange D) 3 (unless (distinct D) 4 (unless (joined D) 5 (unless (fewMarks D) 6 (unless (not (crosses D)) 7 0)))) in
-      ap (λ k. afterRefusalWith k (packCarries D k) (answer (packedBytes D)))
-      (unless-same (lengthsFit D) 1 (unless (roomFits D work out) 2 rest) (unless (roomFits D (6 * borders D) longest) 2 rest)
-      (λ e. ap (λ t. unless t 2 rest) (room-fits work out (few e) wide ∙ sym (room-fits (6 * borders D) longest (omega arith) (omega arith)))))
+      let rest : Answer (List ℕ) = after (drop 2 (packChecks D work out)) (packedBytes D) in
+      let first : List Check = take 1 (packChecks D work out) in
+      checked-same first (pick (roomFits D work out) rest (refused 2)) (pick (roomFits D (6 * borders D) longest) rest (refused 2))
+      (λ z. let fits = tests-passed first refl z .0 in
+      ap (λ t. pick t rest (refused 2))
+      (room-fits work out (few fits) wide ∙ sym (room-fits (6 * borders D) longest (omega arith) (omega arith))))
 
 -- ---- what packing answers opens
 packed-opening : (D : Drawing) (work out : ℕ) (s : List ℕ) → packOf D work out ≡ answer s → openRefusal s ≡ 0
-unfolding packOf
+unfolding packOf packRefusal
 packed-opening D work out s e =
-    let a = after-answer (packRefusal D work out) (packCarries D (packRefusal D work out)) (packedBytes D) s e in
-    ap openRefusal (sym (a .1)) ∙ packed-opens D (pack-accepts D work out .0 (a .0) .1)
+    let cs : List Check = packChecks D work out in
+    ap openRefusal (sym (answered-all cs (packedBytes D) s e .1))
+    ∙ packed-opens D (pack-accepts D work out .0 (answered-none cs (packedBytes D) s e) .1)
 
 -- ---- what is printed after packing
 pub record Mapped (D : Drawing) (n : ℕ) (map : List ℕ) : Type 0 where
@@ -64,8 +66,8 @@ pub record Mapped (D : Drawing) (n : ℕ) (map : List ℕ) : Type 0 where
   pub prints : printed (take n map) ≡ listed (packed (answer D))
 
 bytes-print : (s : List ℕ) → openRefusal s ≡ 0 → printed s ≡ listed (answer s)
-unfolding printed opened
-bytes-print s o = ap (λ k. listed (afterRefusal k (answer s))) o
+unfolding printed
+bytes-print s o = ap listed (opened-opens s (answer s) o)
 
 module _ (D : Drawing) (work out : ℕ) (long : 12288 ≤ work) (wide : longest ≤ out) (r : Packed) (e : packedMeans r ≡ lengthOf (packOf D work out)) where
   pub map-mapped : (n : ℕ) (old map : List ℕ) → r ≡ the-case.Length n → map ≡ written (packOf D work out) old → Mapped D n map

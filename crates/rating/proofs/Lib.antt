@@ -1,3 +1,3 @@
 -- The factor of an area of a map: laws.
-pub mod Along
+pub mod Summing
 pub mod Prices

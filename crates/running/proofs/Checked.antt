@@ -5,56 +5,52 @@
 -- given-declined, given-run == what is answered, and what the lists hold, where the session declines and where it was run
 -- session-declines, session-short-statuses, session-short-answers, session-no-call, session-answers == what `session` returns
 -- Assumes nothing.
-use mathlib.Core.Path.{_≡_, refl, sym, ap, _∙_}
+use mathlib.Core.Path.{_≡_, sym, ap, _∙_}
 use mathlib.Core.Bool.{Bool, true, false, not, _&&_}
 use mathlib.Core.List.{List}
-use Prim.Native.Nat.{ℕ, zero, suc, _<_, _≤_}
+use Prim.Native.Nat.{ℕ, _<_, _≤_}
 use native.Mathlib.Omega.{arith}
 use borrow.Author.Tests.{le-leb, leb-true, not-true, not-false}
 use lib.Dec.{leb}
 use lib.ListN.{length}
-use Rattle.count.specs.Below.{pick}
-use Rattle.count.proofs.Logic.{both, not-both, pick-yes, pick-no}
+use Rattle.count.proofs.Logic.{both, not-both}
+use Rattle.refusals.proofs.Steps.{refuses-at, answers-all}
 use Rattle.drawing.specs.Session.{Answer, answer, refused, Outcome}
-use Rattle.format.specs.Open.{openRefusal, afterRefusal, opened}
+use Rattle.format.specs.Open.{openRefusal}
+use Rattle.format.proofs.Passes.{opened-opens, opened-declines}
 use Rattle.format.specs.Calls.{mapSession}
 use Rattle.running.specs.Codes.{callsOf, areCalls, noCall}
-use Rattle.running.specs.Runs.{Leaves, runOf, ranOf, placeLeft, statusesAfter, answersAfter}
+use Rattle.running.specs.Runs.{Leaves, runChecks, runOf, ranOf, placeLeft, statusesAfter, answersAfter}
 
 -- ---- the checks 2 and `noCall`
 module _ (ks : List ℕ) (k l : ℕ) (o : Outcome) where
   pub run-short : (length ks ≤ k → length ks ≤ l → ⊥) → runOf ks k l o ≡ refused 2
   unfolding runOf
   run-short n =
-      pick-no (leb (length ks) k && leb (length ks) l) (pick (areCalls ks) (answer o) (refused noCall)) (refused 2)
-      (not-both (leb (length ks) k) (leb (length ks) l) (λ g h. n (leb-true (length ks) k g) (leb-true (length ks) l h)))
+      sym (refuses-at (runChecks ks k l) (answer o) 0 tt
+      (not-both (leb (length ks) k) (leb (length ks) l) (λ g h. n (leb-true (length ks) k g) (leb-true (length ks) l h))))
 
   module _ (g : length ks ≤ k) (h : length ks ≤ l) where
-    run-room : runOf ks k l o ≡ pick (areCalls ks) (answer o) (refused noCall)
-    unfolding runOf
-    run-room =
-        pick-yes (leb (length ks) k && leb (length ks) l) (pick (areCalls ks) (answer o) (refused noCall)) (refused 2)
-        (both (leb (length ks) k) (leb (length ks) l) (le-leb (length ks) k g) (le-leb (length ks) l h))
+    room : leb (length ks) k && leb (length ks) l ≡ true
+    room = both (leb (length ks) k) (leb (length ks) l) (le-leb (length ks) k g) (le-leb (length ks) l h)
 
     pub run-no-call : areCalls ks ≡ false → runOf ks k l o ≡ refused noCall
-    run-no-call e = run-room ∙ pick-no (areCalls ks) (answer o) (refused noCall) e
+    unfolding runOf
+    run-no-call e = sym (refuses-at (runChecks ks k l) (answer o) 1 (room, tt) e)
 
     pub run-answers : areCalls ks ≡ true → runOf ks k l o ≡ answer o
-    run-answers e = run-room ∙ pick-yes (areCalls ks) (answer o) (refused noCall) e
+    unfolding runOf
+    run-answers e = sym (answers-all (runChecks ks k l) (answer o) (room, (e, tt)))
 
 -- ---- after opening's
-after-some : {A : Type 0} (k : ℕ) (a : Answer A) → (k ≡ 0 → ⊥) → afterRefusal k a ≡ refused k
-after-some zero a n = absurd (n refl)
-after-some (suc k) a n = refl
-
 module _ (s : List ℕ) (first : ℕ) (ks : List ℕ) (k l : ℕ) where
   pub ran-opens : openRefusal s ≡ 0 → ranOf s first ks k l ≡ runOf ks k l (mapSession s first (callsOf ks))
-  unfolding ranOf opened
-  ran-opens e = ap (λ x. afterRefusal x (runOf ks k l (mapSession s first (callsOf ks)))) e
+  unfolding ranOf
+  ran-opens e = opened-opens s (runOf ks k l (mapSession s first (callsOf ks))) e
 
   ran-declines : (openRefusal s ≡ 0 → ⊥) → ranOf s first ks k l ≡ refused (openRefusal s)
-  unfolding ranOf opened
-  ran-declines n = after-some (openRefusal s) (runOf ks k l (mapSession s first (callsOf ks))) n
+  unfolding ranOf
+  ran-declines n = opened-declines s (runOf ks k l (mapSession s first (callsOf ks))) n
 
 -- ---- what is answered, and what the lists hold
 module _ (a : Answer Outcome) (st an : List ℕ) where

@@ -23,7 +23,8 @@ use Rattle.words.specs.declared.family.Family.the-variants.{Round as round, Squ
 use Rattle.words.specs.Word.{seen, crossing}
 use Rattle.drawing.specs.Session.{Answer, answer, refused, Call, isMove, placeAfter, numberOf, valueOf}
 use Rattle.format.specs.Bytes.{sizeIn, bitsA, wordIn}
-use Rattle.format.specs.Open.{openRefusal, afterRefusal, opened}
+use Rattle.format.specs.Open.{openRefusal}
+use Rattle.format.proofs.Passes.{opened-opens}
 use Rattle.format.specs.Calls.{moveIn, atPlace, mapAnswer}
 use Rattle.format.proofs.Small.{move-small}
 use Rattle.walking.specs.Positions.{Position}
@@ -58,8 +59,8 @@ stay-code k l =
 -- ---- a call at a number
 module _ (s : List ℕ) (o : openRefusal s ≡ 0) (c : Call) (i : ℕ) where
   call-opens : mapAnswer s c i ≡ pick (ltb 0 i && leb i (bitsA (sizeIn s))) (answer (moveIn (wordIn s) c (pred i))) (refused 13)
-  unfolding mapAnswer opened atPlace wordIn
-  call-opens = ap (λ k. afterRefusal k (pick (ltb 0 i && leb i (bitsA (sizeIn s))) (answer (moveIn (wordIn s) c (pred i))) (refused 13))) o
+  unfolding mapAnswer atPlace wordIn
+  call-opens = opened-opens s (pick (ltb 0 i && leb i (bitsA (sizeIn s))) (answer (moveIn (wordIn s) c (pred i))) (refused 13)) o
 
   call-inside : 0 < i → i ≤ bitsA (sizeIn s) → mapAnswer s c i ≡ answer (moveIn (wordIn s) c (i - 1))
   call-inside l h =

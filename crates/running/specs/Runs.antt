@@ -4,7 +4,8 @@
 -- valuesOf o           == the answer of each call
 -- Room ks st an        == both lists have an entry for each call
 -- Leaves o p st an st′ an′ == p is the place that the outcome o leaves, and st′ and an′ are the lists st and an with its statuses and answers
--- runOf ks k l o       == the outcome o of a session with the codes ks, after the checks 2 and `noCall`, k statuses and l answers being lent
+-- runChecks ks k l     == a session's own checks, of the codes ks, k statuses and l answers being lent: 2 and `noCall`
+-- runOf ks k l o       == the outcome o of a session, after these checks
 -- ranOf s i ks k l     == a session on the map s from the first number i: opening's checks, those checks, and the outcome
 -- placeLeft a          == the place left at the end, or the refusal
 -- statusesAfter a old  == the list of statuses after a; old where the session declines
@@ -12,12 +13,12 @@
 -- ranMeans r           == what the case r stands for
 -- Assumes nothing.
 use mathlib.Core.Path.{_≡_}
-use mathlib.Core.Bool.{_&&_}
-use mathlib.Core.List.{List, map}
+use mathlib.Core.Bool.{true, _&&_}
+use mathlib.Core.List.{List, [], _∷_, map}
 use Prim.Native.Nat.{ℕ, _≤_}
 use lib.Dec.{leb}
 use lib.ListN.{length}
-use Rattle.count.specs.Below.{pick}
+use Rattle.refusals.specs.Checks.{Check, check, after}
 use Rattle.drawing.specs.Laid.{laid}
 use Rattle.drawing.specs.Session.{Answer, answer, refusedWith, refused, numberOf, valueOf, Outcome}
 use Rattle.format.specs.Open.{opened}
@@ -42,10 +43,15 @@ pub record Leaves (o : Outcome) (p : ℕ) (st an st′ an′ : List ℕ) : Type 
   pub answers : an′ ≡ laid (valuesOf o) an
 
 -- 2 is document 01's number for lent memory that is too short
+abbrev pub runChecks : List ℕ → ℕ → ℕ → List Check
+runChecks ks k l =
+    check 2 (leb (length ks) k && leb (length ks) l) ((length ks ≤ k) × (length ks ≤ l))
+    ∷ check noCall (areCalls ks) (areCalls ks ≡ true)
+    ∷ []
+
 unfoldable pub runOf : List ℕ → ℕ → ℕ → Outcome → Answer Outcome
 unfolding areCalls
-runOf ks k l o =
-    pick (leb (length ks) k && leb (length ks) l) (pick (areCalls ks) (answer o) (refused noCall)) (refused 2)
+runOf ks k l o = after (runChecks ks k l) o
 
 -- 01: "Every call on map bytes runs 8 to 12, then its own", and with them 20
 unfoldable pub ranOf : List ℕ → ℕ → List ℕ → ℕ → ℕ → Answer Outcome

@@ -13,20 +13,20 @@ use Prim.Native.Nat.{ℕ, suc, _*_, _<_, _≤_}
 use native.Mathlib.Omega.{arith}
 use borrow.Author.Tests.{le-leb, lt-leb}
 use lib.Dec.{leb}
-use lib.ListN.{length}
+use lib.ListN.{length, take}
 use Rattle.count.specs.Below.{Decides}
+use Rattle.refusals.proofs.Steps.{stops-at, passes-all, by-numbers, goes-on}
 use Rattle.bits.specs.Writes.{cleared}
 use Rattle.drawing.specs.Drawing.{Drawing, borders}
 use Rattle.drawing.specs.Checks.{lengthsFit, entriesFit, distinct, connected}
 use Rattle.drawing.specs.Laid.{lent}
-use Rattle.format.specs.Open.{unless}
 use Rattle.format.specs.Pack.{workLeft}
-use Rattle.format.specs.Suggest.{marksRefusal, Suggests}
+use Rattle.format.specs.Suggest.{marksChecks, marksRefusal, Suggests}
 use Rattle.checking.specs.Lent.{Ranged, Differ, Turns}
 use Rattle.checking.proofs.Decided.{passes, fails}
 use Rattle.checking.proofs.Laws.{lengths-passed, turns-of, entries-is, distinct-is}
 use Rattle.reaching.specs.Reaching.{FindsTree}
-use Rattle.suggesting.specs.Later.{laterRefusal, SuggestsLater}
+use Rattle.suggesting.specs.Later.{laterChecks, laterRefusal, SuggestsLater}
 
 -- ---- 4 and 21
 module _ (ts ms : List ℕ) (half : length ts ≡ 2 * length ms) (r : Bool) (d : Decides r (Differ ts)) where
@@ -38,7 +38,7 @@ module _ (ts ms : List ℕ) (half : length ts ≡ 2 * length ms) (r : Bool) (d :
     unfolding laterRefusal
     later-4 h =
         let a : distinct D ≡ false = fails r (distinct D) (distinct-is ts ms s half r d) h in
-        record { number = sym (rw a refl); suggested = λ z. absurd (omega arith); unchanged = λ z. refl }
+        record { number = stops-at (laterChecks D) 0 tt a; suggested = λ z. absurd (omega arith); unchanged = λ z. refl }
 
     differ : not r ≡ false → distinct D ≡ true
     differ h = passes r (distinct D) (distinct-is ts ms s half r d) h
@@ -49,7 +49,7 @@ module _ (ts ms : List ℕ) (half : length ts ≡ 2 * length ms) (r : Bool) (d :
       later-21 g =
           let c : connected D ≡ false = fails q (connected D) (F .tells) g in
           record {
-            number = sym (rw (differ h, c) refl);
+            number = stops-at (laterChecks D) 1 (differ h, tt) c;
             suggested = λ z. absurd (omega arith);
             unchanged = λ z. F .unchanged (fails q q refl g);
           }
@@ -59,7 +59,7 @@ module _ (ts ms : List ℕ) (half : length ts ≡ 2 * length ms) (r : Bool) (d :
       later-none g =
           let c : connected D ≡ true = passes q (connected D) (F .tells) g in
           record {
-            number = sym (rw (differ h, c) refl);
+            number = passes-all (laterChecks D) (differ h, (c, tt));
             suggested = λ z. F .suggested (passes q q refl g);
             unchanged = λ z. absurd (z refl);
           }
@@ -74,15 +74,15 @@ module _ (ts ms : List ℕ) (work : List ℕ) (r : Bool) (p : (s : ℕ) → r �
     E = lent ts ms s
 
     -- a refusal of 1 to 3
-    early : (k : ℕ) → k < 3 → marksRefusal E (length work) ≡ suc k → workLeft (suc k) (borders E) work ≡ work → Suggests E work work ms (suc k)
-    early k l e t =
-        record { number = sym e; suggested = λ z. absurd (omega arith); unchanged = λ z. refl; working = sym t }
+    early : (k : ℕ) → suc k ≡ marksRefusal E (length work) → workLeft (suc k) (borders E) work ≡ work → Suggests E work work ms (suc k)
+    early k e t =
+        record { number = e; suggested = λ z. absurd (omega arith); unchanged = λ z. refl; working = sym t }
 
     pub first-1 : not r ≡ true → Suggests (lent ts ms s) work work ms 1
     unfolding marksRefusal
     first-1 h =
         let a : lengthsFit E ≡ false = fails r (lengthsFit E) (p s) h in
-        early 0 (omega arith) (rw a refl) refl
+        early 0 (stops-at (marksChecks E (length work)) 0 tt a) refl
 
   module _ (h : not r ≡ false) where
     module _ (s : ℕ) where
@@ -91,7 +91,8 @@ module _ (ts ms : List ℕ) (work : List ℕ) (r : Bool) (p : (s : ℕ) → r �
 
       pub first-2 : length work < 6 * length ms → Suggests (lent ts ms s) work work ms 2
       unfolding marksRefusal borders
-      first-2 l = early s 1 (omega arith) (rw (fit, lt-leb (6 * length ms) (length work) l) refl) refl
+      first-2 l =
+          early s 1 (stops-at (marksChecks (lent ts ms s) (length work)) 1 (fit, tt) (lt-leb (6 * length ms) (length work) l)) refl
 
     module _ (l : 6 * length ms ≤ length work) (q : Bool) (d : Decides q (Ranged ts)) where
       module _ (s : ℕ) where
@@ -106,13 +107,7 @@ module _ (ts ms : List ℕ) (work : List ℕ) (r : Bool) (p : (s : ℕ) → r �
         unfolding marksRefusal
         first-3 g =
             let a : entriesFit (lent ts ms s) ≡ false = fails q (entriesFit (lent ts ms s)) range-is g in
-            early s 2 (omega arith) (rw (fit s, enough, a) refl) refl
-
-        -- 4, 21 or none leaves zeros
-        late-left : (a b : Bool) (m : ℕ) → workLeft (unless a 4 (unless b 21 0)) m work ≡ cleared (6 * m) work
-        late-left false b m = refl
-        late-left true false m = refl
-        late-left true true m = refl
+            early s 2 (stops-at (marksChecks (lent ts ms s) (length work)) 2 (fit s, (enough, tt)) a) refl
 
         pub first-later : not q ≡ false → (u v ns : List ℕ) (k : ℕ) → u ≡ cleared (6 * length ms) work → v ≡ u → SuggestsLater (lent ts ms s) ns k
             → Suggests (lent ts ms s) work v ns k
@@ -120,7 +115,10 @@ module _ (ts ms : List ℕ) (work : List ℕ) (r : Bool) (p : (s : ℕ) → r �
         first-later g u v ns k e c X =
             let D : Drawing = lent ts ms s in
             let a : entriesFit D ≡ true = passes q (entriesFit D) range-is g in
-            let n : marksRefusal D (length work) ≡ laterRefusal D = rw (fit s, enough, a) refl in
+            let n : marksRefusal D (length work) ≡ laterRefusal D = goes-on (take 3 (marksChecks D (length work))) (laterChecks D) (fit s, (enough, (a, tt))) in
+            -- 4, 21 or none leaves zeros
+            let left : workLeft (laterRefusal D) (length ms) work ≡ cleared (6 * length ms) work
+            = by-numbers (λ j. workLeft j (length ms) work ≡ cleared (6 * length ms) work) (laterChecks D) (refl, (refl, refl)) in
             record {
               number = X .number ∙ sym n;
               suggested = X .suggested;
@@ -128,7 +126,7 @@ module _ (ts ms : List ℕ) (work : List ℕ) (r : Bool) (p : (s : ℕ) → r �
               working =
                   c
                   ∙ e
-                  ∙ sym (ap (λ j. workLeft j (length ms) work) (X .number) ∙ late-left (distinct D) (connected D) (length ms));
+                  ∙ sym (ap (λ j. workLeft j (length ms) work) (X .number) ∙ left);
             }
 
 pub first-ranged : (ts : List ℕ) (q : Bool) → Decides q (Ranged ts) → not q ≡ false → Ranged ts

@@ -15,41 +15,27 @@ use native.Mathlib.Omega.{arith}
 use lib.Dec.{ltb, leb}
 use borrow.Author.Tests.{ltb-true, leb-true}
 use lib.Ieee.{Float, le}
-use lib.ListN.{getD}
+use lib.ListN.{getD, drop}
 use Rattle.count.specs.Below.{pick}
 use Rattle.count.proofs.Logic.{both-left, both-right}
+use Rattle.refusals.specs.Checks.{Check}
+use Rattle.refusals.proofs.Steps.{Passed, none-append, answered-all, answered-none}
 use Rattle.drawing.specs.Drawing.{Kind}
 use Rattle.drawing.specs.Session.{answer, refused}
 use Rattle.format.specs.Bytes.{sizeIn, wordIn}
-use Rattle.format.specs.Open.{openRefusal, afterRefusal, opened}
+use Rattle.format.specs.Open.{openChecks, openRefusal, opened}
 use Rattle.format.specs.Calls.{cellsIn, isNumber, landingsIn}
 use Rattle.tariff.specs.declared.factor.Factor.{Factor}
 use Rattle.tariff.specs.declared.factor.Running.{Running}
 use Rattle.tariff.specs.Tariff.{factorAt, held, allowed, TariffFits, tariffFits, sumAcross, hasFactor, mean, worth, rated}
 use Rattle.tariff.specs.Maps.{factorOf}
-use Rattle.tariff.specs.Statements.{factorIn, Factored}
+use Rattle.tariff.specs.Statements.{factorChecks, factorIn, Factored}
 use Rattle.tariff.proofs.Lists.{tariff-decides}
 use Rattle.tariff.proofs.Order.{factor-order}
 use Rattle.tariff.proofs.Held.{held-inside, held-between, held-within}
 use Rattle.tariff.proofs.Means.{Near, near-within, mean-near, near-bounds}
 use Rattle.tariff.proofs.Landings.{landings-areas, landings-few}
 use Rattle.tariff.proofs.Unread.{factor-unread}
-
--- an answer after three tests
-record Passed {A : Type 0} (n : ℕ) (x y z : Bool) (u w : A) : Type 0 where
-  none : n ≡ 0
-  first : x ≡ true
-  second : y ≡ true
-  third : z ≡ true
-  same : u ≡ w
-
-tests-passed : {A : Type 0} (n : ℕ) (x y z : Bool) (u w : A)
-    → afterRefusal n (pick x (pick y (pick z (answer u) (refused 19)) (refused 18)) (refused 15)) ≡ answer w → Passed n x y z u w
-tests-passed zero true true true u w e = record { none = refl; first = refl; second = refl; third = refl; same = cc }
-tests-passed zero true true false u w e = let z : _≡_ {A = ℕ} 0 1 = cc in absurd (omega arith)
-tests-passed zero true false z u w e = let z : _≡_ {A = ℕ} 0 1 = cc in absurd (omega arith)
-tests-passed zero false y z u w e = let z : _≡_ {A = ℕ} 0 1 = cc in absurd (omega arith)
-tests-passed (suc n) x y z u w e = let z : _≡_ {A = ℕ} 0 1 = cc in absurd (omega arith)
 
 -- ---- what an area is given
 worth-own : (x : Float) (r : Running) → worth (Factor.Own x) r ≡ x
@@ -92,18 +78,20 @@ module _ (s : List ℕ) (k : ℕ) (kinds : List ℕ) (values : List Float) where
     pub is : worth (factorAt kinds values k) (sumAcross kinds values js) ≡ y
 
   pub factor-answered : (y : Float) → factorOf s k kinds values ≡ answer y → Answered y
-  unfolding factorOf opened rated
+  unfolding factorOf opened openRefusal rated
   factor-answered y e =
       let f = factorAt kinds values k in
       let r = sumAcross kinds values js in
-      let P = tests-passed (openRefusal s) (isNumber (sizeIn s) Kind.area k) (tariffFits v kinds values) (hasFactor f r) (worth f r) y e in
+      let cs : List Check = factorChecks s k kinds values in
+      let P = answered-all cs (worth f r) y e in
+      let own : Passed (drop 6 cs) 3 = P .0 .1 .1 .1 .1 .1 .1 in
       record {
-        opens = P .none;
-        least = ltb-true 0 k (both-left (ltb 0 k) (leb k v) (P .first));
-        most = leb-true k v (both-right (ltb 0 k) (leb k v) (P .first));
-        fits = tariff-decides v kinds values .sound (P .second);
-        has = P .third;
-        is = P .same;
+        opens = none-append (openChecks s) (drop 6 cs) refl (answered-none cs (worth f r) y e) .0;
+        least = ltb-true 0 k (both-left (ltb 0 k) (leb k v) (own .0));
+        most = leb-true k v (both-right (ltb 0 k) (leb k v) (own .0));
+        fits = tariff-decides v kinds values .sound (own .1 .0);
+        has = own .1 .1 .0;
+        is = P .1;
       }
 
   factor-only : (y : Float) → factorOf s k kinds values ≡ answer y → y ≡ factorIn s k kinds values

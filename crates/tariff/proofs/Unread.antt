@@ -18,10 +18,11 @@ use lib.Ieee.{Float, nan}
 use lib.ListN.{length, getD}
 use Rattle.count.specs.Below.{pick}
 use Rattle.count.proofs.Logic.{both-left, both-right, bool-same}
+use Rattle.refusals.proofs.Steps.{checked-same}
 use Rattle.drawing.specs.Drawing.{Kind}
 use Rattle.drawing.specs.Session.{Answer, answer, refused}
 use Rattle.format.specs.Bytes.{sizeIn, wordIn}
-use Rattle.format.specs.Open.{openRefusal, afterRefusal, opened}
+use Rattle.format.specs.Open.{openChecks, openRefusal, opened}
 use Rattle.format.specs.Calls.{cellsIn, isNumber, landingsIn}
 use Rattle.tariff.specs.declared.factor.Factor.{Factor}
 use Rattle.tariff.specs.declared.factor.Running.{Running}
@@ -83,10 +84,6 @@ pick-same : {X : Type 0} (t : Bool) (x y z : X) → (t ≡ true → x ≡ y) →
 pick-same true x y z e = e refl
 pick-same false x y z e = refl
 
-after-same : {A : Type 0} (k : ℕ) (a b : Answer A) → (k ≡ 0 → a ≡ b) → afterRefusal k a ≡ afterRefusal k b
-after-same zero a b e = e refl
-after-same (suc k) a b e = refl
-
 module _ (v : ℕ) (kinds : List ℕ) (values others : List Float) (S : SameUsed kinds values others) where
   pub tariff-same : tariffFits v kinds others ≡ tariffFits v kinds values
   tariff-same =
@@ -114,11 +111,11 @@ module _ (v : ℕ) (kinds : List ℕ) (values others : List Float) (S : SameUsed
 
 pub factor-unread : (s : List ℕ) (k : ℕ) (kinds : List ℕ) (values others : List Float) → SameUsed kinds values others
     → factorOf s k kinds others ≡ factorOf s k kinds values
-unfolding factorOf opened
+unfolding factorOf opened openRefusal
 factor-unread s k kinds values others S =
     let v = cellsIn (sizeIn s) Kind.area in
     let js = landingsIn (wordIn s) k in
-    after-same (openRefusal s) (pick (isNumber (sizeIn s) Kind.area k) (rated v kinds others k js) (refused 15))
+    checked-same (openChecks s) (pick (isNumber (sizeIn s) Kind.area k) (rated v kinds others k js) (refused 15))
     (pick (isNumber (sizeIn s) Kind.area k) (rated v kinds values k js) (refused 15))
     (λ o. pick-same (isNumber (sizeIn s) Kind.area k) (rated v kinds others k js) (rated v kinds values k js) (refused 15)
     (λ n. rated-same v kinds values others S k js

@@ -2,8 +2,7 @@
 --
 -- Known f            == the factor f is known
 -- Priced t k js      == area k is known, or one of the areas js across its sides is; t is the factor of an area
--- factorChecks       == the numbers of the call's checks, in the order in which they run
--- FactorCheck s k kinds values j == the call passes check j; nothing is asked of a number that is none of its checks
+-- factorChecks s k kinds values == the call's checks in the order in which they run: opening's, then its own
 -- factorIn s k kinds values == the factor of area k by the lists, whatever the checks say
 -- uses b f           == whether a kind byte b uses its number f: 0 the factor, 1 the floor, 2 the ceiling
 -- SameUsed kinds values others == the two lists of numbers agree in all that is used
@@ -18,14 +17,14 @@ use lib.Dec.{eqb}
 use lib.Ieee.{Float, binary64, nan, ofBits, le}
 use lib.ListN.{length, getD}
 use Rattle.count.specs.Below.{pick}
+use Rattle.refusals.specs.Checks.{Check, check, InOrder}
 use Rattle.drawing.specs.Drawing.{Kind}
 use Rattle.drawing.specs.Session.{answer}
 use Rattle.format.specs.Bytes.{sizeIn, wordIn}
-use Rattle.format.specs.Open.{openChecks, OpenCheck}
-use Rattle.format.specs.Refusals.{InOrder, bare}
+use Rattle.format.specs.Open.{openChecks}
 use Rattle.format.specs.Calls.{cellsIn, isNumber, landingsIn}
 use Rattle.tariff.specs.declared.factor.Factor.{Factor}
-use Rattle.tariff.specs.Tariff.{factorAt, TariffFits, mean, sumAcross, worth}
+use Rattle.tariff.specs.Tariff.{factorAt, TariffFits, tariffFits, mean, sumAcross, hasFactor, worth}
 use Rattle.tariff.specs.Maps.{factorOf}
 
 abbrev pub Known : Factor → Type 0
@@ -36,14 +35,15 @@ abbrev pub Priced : (ℕ → Factor) → ℕ → List ℕ → Type 0
 Priced t k js = Known (t k) ⊎ ((i : ℕ) × (i < length js) × Known (t (getD js i 0)))
 
 -- 02: "both come after opening and 15, 18 first"
-abbrev pub factorChecks : List ℕ
-factorChecks = openChecks ++ (15 ∷ 18 ∷ 19 ∷ [])
-
-abbrev pub FactorCheck : List ℕ → ℕ → List ℕ → List Float → ℕ → Type 0
-FactorCheck s k kinds values j =
-    pick (eqb j 15) (isNumber (sizeIn s) Kind.area k ≡ true)
-    (pick (eqb j 18) (TariffFits (cellsIn (sizeIn s) Kind.area) kinds values)
-    (pick (eqb j 19) (Priced (factorAt kinds values) k (landingsIn (wordIn s) k)) (OpenCheck s j)))
+abbrev pub factorChecks : List ℕ → ℕ → List ℕ → List Float → List Check
+factorChecks s k kinds values =
+    let v : ℕ = cellsIn (sizeIn s) Kind.area in
+    let js : List ℕ = landingsIn (wordIn s) k in
+    openChecks s
+    ++ (check 15 (isNumber (sizeIn s) Kind.area k) (isNumber (sizeIn s) Kind.area k ≡ true)
+    ∷ check 18 (tariffFits v kinds values) (TariffFits v kinds values)
+    ∷ check 19 (hasFactor (factorAt kinds values k) (sumAcross kinds values js)) (Priced (factorAt kinds values) k js)
+    ∷ [])
 
 unfoldable pub factorIn : List ℕ → ℕ → List ℕ → List Float → Float
 unfolding worth factorAt sumAcross landingsIn wordIn
@@ -63,7 +63,7 @@ pub record SameUsed (kinds : List ℕ) (values others : List Float) : Type 0 whe
 -- 1/128 and 128, so its bits are fixed (`bounded`): of a mean, rounding leaves no narrower claim that is as simple. What a kind
 -- doesn't use changes nothing (`unread`).
 pub record Factored (s : List ℕ) (k : ℕ) (kinds : List ℕ) (values : List Float) : Type 0 where
-  pub order : InOrder bare (FactorCheck s k kinds values) factorChecks (factorIn s k kinds values) (factorOf s k kinds values)
+  pub order : InOrder (factorChecks s k kinds values) (factorIn s k kinds values) (factorOf s k kinds values)
   pub only : (y : Float) → factorOf s k kinds values ≡ answer y → y ≡ factorIn s k kinds values
   pub own : (x : Float) → factorAt kinds values k ≡ Factor.Own x → factorIn s k kinds values ≡ x
   pub between : (x low high y : Float) → factorAt kinds values k ≡ Factor.Held x low high → factorOf s k kinds values ≡ answer y

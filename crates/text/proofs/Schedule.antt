@@ -30,9 +30,9 @@ use Rattle.drawing.specs.Drawing.{Kind}
 use Rattle.drawing.specs.Session.{Answer, answer, refused}
 use Rattle.drawing.specs.Book.{noSuch}
 use Rattle.format.specs.Bytes.{sizeIn, bitsA, wordIn, longest}
-use Rattle.format.specs.Open.{openRefusal, afterRefusal, opened}
+use Rattle.format.specs.Open.{openRefusal, opened}
 use Rattle.format.specs.Calls.{cellsIn, isNumber, firstIn, placesIn, firstOf, sizeOf}
-use Rattle.format.proofs.Passes.{opens-passes}
+use Rattle.format.proofs.Passes.{opens-passes, opened-opens}
 use Rattle.format.proofs.Openings.{cells-numbers}
 use Rattle.format.proofs.Longest.{too-long, open-cut}
 use Rattle.text.specs.Decimal.{space, lineFeed, decimal, aligned}
@@ -157,8 +157,7 @@ module _ (s : List ℕ) (o : openRefusal s ≡ 0) (k : ℕ) where
   is-area a b = both (ltb 0 k) (leb k (cellsIn (sizeIn s) Kind.area)) (lt-ltb 0 k (omega arith)) (le-leb k (cellsIn (sizeIn s) Kind.area) b)
 
   called : (a : Answer ℕ) → opened s a ≡ a
-  unfolding opened
-  called a = ap (λ e. afterRefusal e a) o
+  called a = opened-opens s a o
 
   pub schedule-answers : 1 ≤ k → k ≤ cellsIn (sizeIn s) Kind.area → Answered s k
   unfolding sizeOf firstOf rowOf
@@ -178,10 +177,10 @@ total-length x h =
     omega arith
 
 pub scheduled : (s : List ℕ) → openRefusal s ≡ 0 → Scheduled s
-unfolding scheduleOf shown opened schedule
+unfolding scheduleOf shown schedule
 scheduled s o =
     record {
-      printed = ap (λ k. shown schedule (afterRefusal k (answer s))) o;
+      printed = ap (shown schedule) (opened-opens s (answer s) o);
       total = schedule-total s o;
       total-fits = total-length (sumOf (rowsOf s)) (omega (arith, schedule-total s o, opens-passes s o .m-most));
       lines = schedule-lines s o;
@@ -190,8 +189,8 @@ scheduled s o =
     }
 
 pub schedule-refused : (s : List ℕ) → openRefusal s ≢ 0 → scheduleOf s ≡ refusedLine (openRefusal s)
-unfolding scheduleOf opened
-schedule-refused s n = shown-line schedule s (openRefusal s) n
+unfolding scheduleOf
+schedule-refused s n = shown-line schedule s n
 
 -- ---- inputs longer than the longest map
 -- the program reads one byte more than the longest map has, and no further

@@ -2,14 +2,14 @@
 --
 -- shown-line == a refusal is shown as its line, whatever the bytes are and whatever text is made of maps
 -- Assumes nothing.
-use mathlib.Core.Path.{_≡_, refl}
+use mathlib.Core.Path.{_≡_, ap}
 use mathlib.Core.List.{List}
-use Prim.Native.Nat.{ℕ, zero, suc}
+use Prim.Native.Nat.{ℕ}
 use Rattle.drawing.specs.Session.{answer}
-use Rattle.format.specs.Open.{afterRefusal}
+use Rattle.format.specs.Open.{openRefusal, opened}
+use Rattle.format.proofs.Passes.{opened-declines}
 use Rattle.text.specs.Listing.{refusedLine, shown}
 
-pub shown-line : (f : List ℕ → List ℕ) (s : List ℕ) (k : ℕ) → (k ≡ 0 → ⊥) → shown f (afterRefusal k (answer s)) ≡ refusedLine k
+pub shown-line : (f : List ℕ → List ℕ) (s : List ℕ) → (openRefusal s ≡ 0 → ⊥) → shown f (opened s (answer s)) ≡ refusedLine (openRefusal s)
 unfolding shown
-shown-line f s zero n = absurd (n refl)
-shown-line f s (suc k) n = refl
+shown-line f s n = ap (shown f) (opened-declines s (answer s) n)

@@ -19,7 +19,8 @@ use Rattle.drawing.specs.Drawing.{Drawing, borders}
 use Rattle.drawing.specs.Session.{Answer, answer, refused}
 use Rattle.drawing.specs.Laid.{bordersOf, laid, turningAfter, marksAfter}
 use Rattle.format.specs.Bytes.{sizeIn, wordIn}
-use Rattle.format.specs.Open.{openRefusal, afterRefusal, opened}
+use Rattle.format.specs.Open.{openRefusal}
+use Rattle.format.proofs.Passes.{opened-opens, opened-declines}
 use Rattle.format.specs.Pack.{drawingOf, unpackOf}
 use Rattle.roundtrip.proofs.Drawing.{drawing-half}
 use Rattle.unpacking.proofs.Placed.{nested-in}
@@ -30,10 +31,6 @@ Outcome s t k a t′ k′ =
     × ((t′ ≡ turningAfter (unpackOf s (length t) (length k)) t)
     × (k′ ≡ marksAfter (unpackOf s (length t) (length k)) k))
 
-after-some : (o k : ℕ) (a : Answer Drawing) → k ≡ o → (k ≡ 0 → ⊥) → afterRefusal o a ≡ refused k
-after-some zero k a e m = absurd (m e)
-after-some (suc o) k a e m = ap refused (sym e)
-
 module _ (s t k : List ℕ) (o : ℕ) (e : o ≡ openRefusal s) where
   declined : (x : ℕ) → unpackOf s (length t) (length k) ≡ refused x → Outcome s t k (refused x) t k
   declined x h = (sym (ap bordersOf h), (sym (ap (λ a. turningAfter a t) h), sym (ap (λ a. marksAfter a k) h)))
@@ -43,12 +40,12 @@ module _ (s t k : List ℕ) (o : ℕ) (e : o ≡ openRefusal s) where
   roomy = leb (2 * sizeIn s .m) (length t) && leb (sizeIn s .m) (length k)
 
   pub unpack-declines : (o ≡ 0 → ⊥) → Outcome s t k (refused o) t k
-  unfolding unpackOf opened
-  unpack-declines m = declined o (after-some (openRefusal s) o (pick (leb (2 * sizeIn s .m) (length t) && leb (sizeIn s .m) (length k)) (answer (drawingOf (wordIn s))) (refused 16)) e m)
+  unfolding unpackOf
+  unpack-declines m = declined o (opened-declines s _ (λ z. m (e ∙ z)) ∙ ap refused (sym e))
 
   own : o ≡ 0 → unpackOf s (length t) (length k) ≡ pick roomy (answer (drawingOf (wordIn s))) (refused 16)
-  unfolding unpackOf opened roomy
-  own z = ap (λ x. afterRefusal x (pick roomy (answer (drawingOf (wordIn s))) (refused 16))) (sym e ∙ z)
+  unfolding unpackOf roomy
+  own z = opened-opens s (pick roomy (answer (drawingOf (wordIn s))) (refused 16)) (sym e ∙ z)
 
   short : o ≡ 0 → roomy ≡ false → Outcome s t k (refused 16) t k
   short z f = declined 16 (own z ∙ pick-no roomy (answer (drawingOf (wordIn s))) (refused 16) f)

@@ -6,6 +6,8 @@
 -- walk-returns == any other step leads to the first position, and from the last
 -- walk-more, walk-last == the same by how many positions of the point (area) come before: one more, or all but this one
 -- walk-order   == from the first position of a point (area) the i-th step leads to its i-th position, and after all of them back
+-- walk-gather  == so what the walk meets, of any kind, is what a pass over all positions gathers from those with the number
+-- about-cell   == the same of any number: the walk begins at its first position, and meets nothing where no position has it
 -- Assumes nothing.
 use mathlib.Core.Path.{_≡_, refl, sym, ap, _∙_}
 use mathlib.Core.Logic.{_≢_, inl, inr}
@@ -14,19 +16,23 @@ use Prim.Native.Nat.{ℕ, zero, suc, _+_, _-_, _<_, _≤_}
 use native.Mathlib.Numerals.{add-one}
 use native.Mathlib.Omega.{arith}
 use lib.Dec.{eqb}
-use borrow.Author.Tests.{eq-eqb, ne-eqb}
-use Rattle.count.specs.Below.{count, nth}
+use lib.ListN.{length}
+use borrow.Author.Tests.{eq-eqb, ne-eqb, eqb-true}
+use lib.Seq.{ext-getD}
+use Rattle.count.specs.Below.{count, nth, table, gather}
 use Rattle.count.proofs.Logic.{same-or-not, lt-or-ge}
-use Rattle.count.proofs.Below.{count-none, count-next, count-before, nth-of-count}
+use Rattle.count.proofs.Below.{count-none, count-next, count-before, nth-of-count, find-has}
+use Rattle.count.proofs.Lists.{table-length, table-getD, gather-length, gather-getD}
 use Rattle.orbits.specs.Cycles.{iter}
 use Rattle.orbits.proofs.Iter.{iter-next}
-use Rattle.words.specs.Brackets.{Bracket, opens, closes, inner, Balanced, mate, next, step, number, size}
+use Rattle.words.specs.Brackets.{Bracket, opens, closes, inner, Balanced, mate, next, step, number, first, size}
 use Rattle.words.proofs.Letters.{by-bracket}
 use Rattle.words.proofs.Stack.{inner-zero, inner-le}
 use Rattle.words.proofs.Held.{Held, at-top, under, held-below}
 use Rattle.words.proofs.Mate.{mate-neither, mate-opens, mate-closes, mate-involutive, inner-closing, held-mate, held-to-mate}
 use Rattle.words.proofs.Step.{next-plain, next-last, step-below, inner-step}
-use Rattle.words.proofs.Numbers.{inner-number, number-inner}
+use Rattle.words.proofs.Numbers.{inner-number, number-inner, first-inner}
+use Rattle.words.proofs.Sizes.{first-below}
 
 module _ (b : ℕ → Bracket) where
   held-inner : (q p : ℕ) → Held b q p → q < inner b p
@@ -161,3 +167,29 @@ module _ (b : ℕ → Bracket) where
         let one : size b n k ≡ (size b n k - 1) + 1 = omega (arith, before-end f l e) in
             ap (λ d. iter (step b n) d f) one ∙ comes-back (size b n k - 1) one,
       )
+
+      walk-gather : (g : ℕ → ℕ) → table (λ i. g (iter (step b n) i f)) (size b n k) ≡ gather (on k) g n
+      unfolding size
+      walk-gather g =
+          let met : ℕ → ℕ = λ i. g (iter (step b n) i f) in
+          let d : ℕ = size b n k in
+          let t : length (table met d) ≡ d = table-length met d in
+          ext-getD 0 (table met d) (gather (on k) g n) (t ∙ sym (gather-length (on k) g n))
+          (λ i h.
+          let l : i < d = omega arith in
+          table-getD met d i 0 l ∙ ap g (walk-order .0 i l) ∙ sym (gather-getD (on k) g n i 0 l))
+
+  pub about-cell : (n : ℕ) → Balanced b n → (k : ℕ) (g : ℕ → ℕ) → table (λ i. g (iter (step b n) i (first b n k))) (size b n k) ≡ gather (on k) g n
+  unfolding first size
+  about-cell n bal k g =
+      let f : ℕ = first b n k in
+      let met : ℕ → ℕ = λ i. g (iter (step b n) i f) in
+      elim (same-or-not (size b n k) 0) [
+        | inl z ↦
+            let l : length (table met (size b n k)) ≡ 0 = table-length met (size b n k) ∙ z in
+            ext-getD 0 (table met (size b n k)) (gather (on k) g n) (l ∙ sym z ∙ sym (gather-length (on k) g n)) (λ i h. absurd (omega arith))
+        | inr d ↦
+            let below : f < n = first-below b n k (omega arith) in
+            let e : number b f ≡ k = eqb-true (number b f) k (find-has (on k) n below) in
+            walk-gather n bal k f below (sym (first-inner b n f below) ∙ ap (first b n) e) e g
+      ]

@@ -1,4 +1,2 @@
 -- Writing a map: the laws.
-pub mod Holding
 pub mod Filling
-pub mod Assembly

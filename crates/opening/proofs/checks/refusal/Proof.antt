@@ -1,5 +1,9 @@
 -- `opening::checks::refusal` meets its contract. Assumes nothing.
-use Rattle.opening.proofs.Rows.{passes, fails, first-header, first-10, first-11, first-12, none, bytes-open}
+use mathlib.Core.Path.{refl}
+use Rattle.refusals.proofs.Steps.{first-stops, none-found, next-stops, next-passes}
+use Rattle.format.specs.Open.{openRefusal}
+use Rattle.opening.specs.Checks.{headerChecks, stringChecks, headerRefusal}
+use Rattle.opening.proofs.Rows.{passes, fails, bytes-open}
 use borrow.Author.Needs.{needs}
 use Rattle.opening.proofs.checks.refusal.Statement.{statement}
 use Rattle.opening.proofs.checks.refusal.Tie as tie
@@ -8,28 +12,33 @@ header-refusal-requires : tie.Need-header-refusal-requires
 header-refusal-requires c κs = search needs
 
 returns : tie.Need-returns
-returns c = (search first-header, search bytes-open)
+unfolding openRefusal headerRefusal
+returns c = (first-stops (headerChecks _) (stringChecks _) _ (search needs) (search needs), search bytes-open)
 
 unused-fits-requires : tie.Need-unused-fits-requires
 unused-fits-requires c κs = search needs
 
 returns-2 : tie.Need-returns-2
-returns-2 c = (search (fails, first-10), search bytes-open)
+unfolding openRefusal headerRefusal
+returns-2 c = (next-stops (headerChecks _) (stringChecks _) refl (search none-found) 0 tt (search fails), search bytes-open)
 
 ones-fit-requires : tie.Need-ones-fit-requires
 ones-fit-requires c κs = search needs
 
 returns-3 : tie.Need-returns-3
-returns-3 c = (search (passes, fails, first-11), search bytes-open)
+unfolding openRefusal headerRefusal
+returns-3 c = (next-stops (headerChecks _) (stringChecks _) refl (search none-found) 1 (search passes) (search fails), search bytes-open)
 
 brackets-fit-requires : tie.Need-brackets-fit-requires
 brackets-fit-requires c κs = search needs
 
 returns-4 : tie.Need-returns-4
-returns-4 c = (search (passes, fails, first-12), search bytes-open)
+unfolding openRefusal headerRefusal
+returns-4 c = (next-stops (headerChecks _) (stringChecks _) refl (search none-found) 2 (search passes) (search fails), search bytes-open)
 
 returns-5 : tie.Need-returns-5
-returns-5 c = (search (passes, none), search bytes-open)
+unfolding openRefusal headerRefusal
+returns-5 c = (next-passes (headerChecks _) (stringChecks _) refl (search none-found) (search passes), search bytes-open)
 
 pub refusal-spec : {M : Type 1} → statement M
 refusal-spec =

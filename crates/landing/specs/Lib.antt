@@ -1,0 +1,2 @@
+-- What lies across the sides of an area: definitions.
+pub mod Landed

@@ -1,0 +1,3 @@
+-- Answers and checks: the laws.
+pub mod Order
+pub mod Steps

@@ -1,0 +1,1 @@
+// A theory crate: definitions in specs/, laws in proofs/, no code.
