@@ -21,20 +21,22 @@ use lib.Dec.{eqb, ltb, leb}
 use borrow.Author.Tests.{eqb-true, eq-eqb, ltb-true, leb-true}
 use Rattle.count.specs.Below.{pick}
 use Rattle.count.proofs.Logic.{true-or-false, both-left, both-right, bool-same}
+use Rattle.answers.specs.Answer.{Answer, answer, refused, Kind, noSuch}
 use Rattle.words.specs.Brackets.{Bracket, step, number, first}
 use Rattle.words.specs.declared.family.Family.the-variants.{Round as round, Square as square}
 use Rattle.words.specs.Word.{seen, crossing}
 use Rattle.words.proofs.Step.{step-below}
 use Rattle.words.proofs.Numbers.{openings}
 use Rattle.words.proofs.Sizes.{first-below}
-use Rattle.drawing.specs.Drawing.{Drawing, Kind, borders, ends, other, turn, around, cells, endAt, positionOf}
-use Rattle.drawing.specs.Session.{Answer, answer, refused, Call, placeAfter, session}
-use Rattle.drawing.specs.Book.{placeOf, numberAt, answerAt, bookAnswer, bookSession, noSuch, hasNumber, firstPosition, endsOn, joinFrom}
+use Rattle.drawing.specs.Drawing.{Drawing, borders, ends, other, turn, around, cells, endAt, positionOf}
+use Rattle.drawing.specs.Session.{Call, placeAfter, session}
+use Rattle.drawing.specs.Book.{placeOf, numberAt, answerAt, bookAnswer, bookSession, hasNumber, firstPosition, endsOn, joinFrom}
 use Rattle.drawing.specs.Book.{bookFirst, bookSize, bookNeighbours, bookLandings, bookJoining}
 use Rattle.drawing.specs.Neighbours.{landings}
 use Rattle.drawing.proofs.Neighbours.{neighbours-same, landings-same}
 use Rattle.format.specs.Pack.{wordOf}
-use Rattle.format.specs.Calls.{moveIn, atPlace, firstIn, placesIn, neighboursIn, landingsIn, joinIn}
+use Rattle.format.specs.Calls.{moveIn, firstIn, placesIn, neighboursIn, landingsIn, joinIn}
+use Rattle.format.proofs.Places.{atPlace}
 use Rattle.agreement.specs.Toured.{Toured}
 use Rattle.agreement.proofs.Positions.{partner, end-other, partner-below}
 use Rattle.agreement.proofs.Nesting.{word-balanced, cross-mate}

@@ -18,6 +18,7 @@ use borrow.Author.Tests.{eqb-true, eq-eqb, ne-eqb}
 use Rattle.count.specs.Below.{count}
 use Rattle.count.proofs.Logic.{bool-same}
 use Rattle.count.proofs.Below.{find-is, find-same, count-same}
+use Rattle.answers.specs.Answer.{Kind}
 use Rattle.orbits.specs.Cycles.{SameCycle, cycles, leads}
 use Rattle.orbits.proofs.Low.{same-cycle-low, low-same-cycle}
 use Rattle.orbits.proofs.Conjugate.{conjugate-same-cycle, same-cycle-conjugate, conjugate-cycles, count-renamed}
@@ -28,7 +29,7 @@ use Rattle.words.proofs.Stack.{inner-le, inner-below, inner-inner}
 use Rattle.words.proofs.Step.{step-below, step-permutes}
 use Rattle.words.proofs.Numbers.{openings, first-is, last-step}
 use Rattle.words.proofs.Points.{step-cycle, number-cycle, leads-first, cycles-step, number-leads}
-use Rattle.drawing.specs.Drawing.{Drawing, Kind, ends, turn, around, cellOf, endAt}
+use Rattle.drawing.specs.Drawing.{Drawing, ends, turn, around, cellOf, endAt}
 use Rattle.drawing.specs.Book.{lowPosition, isLowest, numberAt, firstPosition, endsOn}
 use Rattle.format.specs.Pack.{wordOf}
 use Rattle.format.specs.Calls.{familyOfKind, placesIn}

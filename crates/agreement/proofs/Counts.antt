@@ -18,6 +18,7 @@ use borrow.Author.Tests.{eq-eqb, ne-eqb, lt-ltb, le-ltb}
 use Rattle.count.specs.Below.{pick, count}
 use Rattle.count.proofs.Logic.{same-or-not, lt-or-ge, pick-yes, pick-no}
 use Rattle.count.proofs.Below.{count-zero, count-same, count-split, count-not}
+use Rattle.answers.specs.Answer.{Kind}
 use Rattle.orbits.specs.Cycles.{Permutes, cycles}
 use Rattle.orbits.proofs.Iter.{permutes-involution}
 use Rattle.orbits.proofs.Conjugate.{count-renamed}
@@ -26,7 +27,7 @@ use Rattle.words.specs.declared.family.Family.{Family}
 use Rattle.words.specs.declared.family.Family.the-variants.{Round as round, Square as square}
 use Rattle.words.specs.Word.{sameFamily, seen}
 use Rattle.words.proofs.Numbers.{openings}
-use Rattle.drawing.specs.Drawing.{Drawing, Kind, borders, ends, border, isMarked, around, cells, endAt, isSecond}
+use Rattle.drawing.specs.Drawing.{Drawing, borders, ends, border, isMarked, around, cells, endAt, isSecond}
 use Rattle.drawing.specs.Checks.{markCount}
 use Rattle.drawing.proofs.Ends.{count-borders}
 use Rattle.format.specs.Pack.{wordOf}

@@ -10,7 +10,8 @@ use Prim.Native.Nat.{ℕ, _+_, _-_, _*_, _≤_, _<_}
 use native.Mathlib.Omega.{arith}
 use Rattle.count.proofs.Logic.{true-or-false}
 use Rattle.count.proofs.Counts.{count-le}
-use Rattle.drawing.specs.Drawing.{Drawing, Kind, borders, ends, isMarked, cells, endAt}
+use Rattle.answers.specs.Answer.{Kind}
+use Rattle.drawing.specs.Drawing.{Drawing, borders, ends, isMarked, cells, endAt}
 use Rattle.drawing.specs.Checks.{PassesSix, PassesSeven, Alternate, markCount}
 use Rattle.drawing.proofs.Ends.{turn-permutes, border-below}
 use Rattle.tours.specs.Tour.{MeetsAll}

@@ -18,13 +18,14 @@ use borrow.Author.Tests.{eqb-true, eq-eqb}
 use Rattle.count.specs.Below.{pick}
 use Rattle.count.proofs.Logic.{true-or-false}
 use Rattle.count.proofs.Below.{find-has, find-at-most}
+use Rattle.answers.specs.Answer.{Kind}
 use Rattle.orbits.specs.Cycles.{Permutes}
 use Rattle.words.specs.Brackets.{Bracket, mate, step, back}
 use Rattle.words.specs.declared.family.Family.the-variants.{Round as round}
 use Rattle.words.specs.Word.{seen}
 use Rattle.words.proofs.Mate.{mate-below}
 use Rattle.words.proofs.Step.{step-below, back-below, step-back}
-use Rattle.drawing.specs.Drawing.{Drawing, Kind, ends, border, other, turn, isMarked, over, walk, crossed, around, endAt, positionOf}
+use Rattle.drawing.specs.Drawing.{Drawing, ends, border, other, turn, isMarked, over, walk, crossed, around, endAt, positionOf}
 use Rattle.drawing.specs.Book.{entryTo}
 use Rattle.drawing.proofs.Ends.{other-border, other-other, over-yes, over-no, over-over, walk-permutes}
 use Rattle.format.specs.Pack.{wordOf}

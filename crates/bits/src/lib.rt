@@ -8,10 +8,7 @@
 //     count_in      how many of the w bits from p on are v, for w up to WIDEST
 //     byte          byte k
 //     set_bit       makes bit i be v
-//     clear         makes the first k entries of a list of 16-bit numbers 0
 //     bytes_for     how many bytes k bits take
-//     least         the lesser of two numbers
-//     wide          a 16-bit number as an index
 //
 // Conventions. Bit i is bit i % 8 of byte i / 8, the lowest first. Positions count from 0, and so
 // does the j of select. A read past the end is 0, and a write there changes nothing. No function asks
@@ -27,8 +24,6 @@ mod runs;
 mod write;
 
 pub use numbers::bytes_for;
-pub use numbers::least;
-pub use numbers::wide;
 pub use read::bit;
 pub use read::rank;
 pub use read::select;
@@ -37,5 +32,4 @@ pub use runs::WIDEST;
 pub use runs::byte;
 pub use runs::count_in;
 pub use runs::field;
-pub use write::clear;
 pub use write::set_bit;

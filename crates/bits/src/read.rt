@@ -2,7 +2,7 @@
 use crate::blocks::ones_in_byte;
 use crate::blocks::ones_in_eight;
 use crate::blocks::share;
-use crate::numbers::least;
+use lending::least;
 ghost use mathlib.Core.Path.{_≡_};
 ghost use Prim.Native.Nat.{_+_, _*_, _/_, _%_, _^_, _<_, _≤_, min};
 ghost use lib.ListN.{length};

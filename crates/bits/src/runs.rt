@@ -1,7 +1,7 @@
 // A run of bits at once: as a number, and how many of them are v; and a byte.
 use crate::blocks::four;
 use crate::blocks::share;
-use crate::numbers::least;
+use lending::least;
 ghost use mathlib.Core.Path.{_≡_};
 ghost use Prim.Native.Nat.{_*_, _^_, _<_, _≤_, min};
 ghost use lib.ListN.{getD};

@@ -1,9 +1,8 @@
-// Writing to lent memory: one bit, a run of zeros.
-use crate::numbers::least;
+// Writing one bit of a string.
 ghost use mathlib.Core.Path.{_≡_};
 ghost use Prim.Native.Nat.{_<_};
 ghost use Rattle.count.specs.Below.{pick};
-ghost use Rattle.bits.specs.Writes.{withBit, setBit, cleared};
+ghost use Rattle.bits.specs.Writes.{withBit, setBit};
 
 // Makes bit i be v. Nothing changes where i is past the end.
 pub fn set_bit(s: &mut [u8], i: usize, v: bool)
@@ -12,18 +11,6 @@ pub fn set_bit(s: &mut [u8], i: usize, v: bool)
     let k = i / 8;
     if k < s.len() {
         s[k] = with_bit(s[k], i % 8, v);
-    }
-}
-
-// Makes the first k entries 0, all of them where there are fewer.
-pub fn clear(s: &mut [u16], k: usize)
-    ensures { λ _. ⌜ now (s .exit) ≡ cleared k (now (s .entry)) ⌝ }
-{
-    let n = least(k, s.len());
-    let mut i = 0;
-    while i < n {
-        s[i] = 0;
-        i += 1;
     }
 }
 

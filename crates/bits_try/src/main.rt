@@ -41,7 +41,7 @@ fn runs(s: &[u8], n: usize, v: usize, w: usize) {
     show(bits::count_in(s, v, n, w));
     show(bits::byte(s, n / 8));
     show(bits::bytes_for(n));
-    show(bits::least(n, 1000));
+    show(lending::least(n, 1000));
 }
 
 fn brackets(s: &[u8], n: usize, i: usize) {
@@ -59,7 +59,7 @@ fn scan(s: &[u8], n: usize, p: usize, d: usize) {
 
 fn cleared(k: usize) {
     let mut list = [7u16; 16];
-    bits::clear(&mut list, k);
+    lending::clear(&mut list, k);
     show((list[8] == 0) as usize);
     io::write_all(STDOUT_FILENO, b"\n");
 }

@@ -18,14 +18,13 @@ use mir.Syntax.{w64}
 use mir.Val.{Fits}
 use Rattle.count.specs.Below.{Decides}
 use Rattle.count.proofs.Decides.{decides-as}
+use Rattle.answers.specs.Lent.{cleared}
 use Rattle.orbits.specs.Cycles.{Permutes}
 use Rattle.orbits.proofs.Iter.{permutes-differ}
-use Rattle.bits.specs.Writes.{cleared}
-use Rattle.drawing.specs.Drawing.{borders, ends, turn}
+use Rattle.drawing.specs.Drawing.{borders, ends, turn, lent}
 use Rattle.drawing.specs.Checks.{LengthsFit, lengthsFit, EntriesFit, entriesFit, Distinct, distinct}
 use Rattle.drawing.proofs.Checks.{lengths-decides, entries-decides, distinct-decides}
 use Rattle.drawing.proofs.Ends.{entries-permute}
-use Rattle.drawing.specs.Laid.{lent}
 use Rattle.checking.specs.Lent.{next, Ranged, Differ, Turns, Blank}
 use Rattle.checking.proofs.Decided.{passes, decides-same}
 use Rattle.checking.proofs.Working.{blank-cleared}

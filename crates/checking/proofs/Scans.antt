@@ -18,10 +18,9 @@ use lib.ListN.{length, getD}
 use Rattle.count.specs.Below.{Decides, count}
 use Rattle.count.proofs.Below.{count-zero, count-yes, count-no}
 use Rattle.count.proofs.Decides.{decides-refutes}
-use Rattle.drawing.specs.Drawing.{borders, ends, turn, isMarked}
+use Rattle.drawing.specs.Drawing.{borders, ends, turn, isMarked, lent}
 use Rattle.drawing.specs.Checks.{LengthsFit, lengthsFit, InRange, inRange, markCount}
 use Rattle.drawing.proofs.Checks.{lengths-decides, range-decides}
-use Rattle.drawing.specs.Laid.{lent}
 use Rattle.checking.specs.Lent.{next, Ranged, Binary}
 use Rattle.checking.proofs.Laws.{ranged-from}
 use Rattle.checking.proofs.Decided.{decides-yes, decides-no, decides-same, Passed, passed-start, passed-more, passed-all}

@@ -13,9 +13,9 @@ use Prim.Native.Nat.{ℕ, _*_, _<_, _≤_}
 use native.Mathlib.Omega.{arith}
 use lib.ListN.{length, set, length-set}
 use lib.Seq.{getD-set-other, ext-getD}
+use Rattle.lending.proofs.Clearing.{cleared-length, cleared-first, cleared-rest}
 use Rattle.count.proofs.Logic.{lt-or-ge}
-use Rattle.bits.specs.Writes.{cleared}
-use Rattle.bits.proofs.Stores.{cleared-length, cleared-first, cleared-rest}
+use Rattle.answers.specs.Lent.{cleared}
 use Rattle.checking.specs.Lent.{Blank, Kept}
 
 pub kept-none : (k : ℕ) (l : List ℕ) → Kept k l l

@@ -1,5 +1,5 @@
 // Check 4: no two entries of the turning list are equal.
-use bits::wide;
+use lending::wide;
 ghost use mathlib.Core.Path.{_≡_};
 ghost use Prim.Native.Nat.{_*_};
 ghost use lib.ListN.{length};
@@ -13,7 +13,7 @@ pub fn is_distinct(turning: &[u16], work: &mut [u16]) -> bool
     ensures { λ _. ⌜ now (work .exit) ≡ now (work .entry) ⌝ }
 {
     let differ = flag_entries(turning, work);
-    bits::clear(work, turning.len());
+    lending::clear(work, turning.len());
     differ
 }
 

@@ -1,5 +1,5 @@
 // What one pass over each list tells: lengths, ranges, marks.
-use bits::wide;
+use lending::wide;
 use format::MOST_ENDS;
 ghost use mathlib.Core.Path.{_≡_};
 ghost use mathlib.Core.List.{List};
@@ -7,7 +7,7 @@ ghost use Prim.Native.Nat.{ℕ, _≤_, _<_, max};
 ghost use lib.ListN.{length};
 ghost use Rattle.count.specs.Below.{Decides};
 ghost use Rattle.drawing.specs.Checks.{LengthsFit, lengthsFit, inRange, markCount};
-ghost use Rattle.drawing.specs.Laid.{lent};
+ghost use Rattle.drawing.specs.Drawing.{lent};
 ghost use Rattle.checking.specs.Lent.{Ranged, Binary};
 
 // 1: the turning list is twice as long as the marks, and at most 4,096 long.

@@ -7,6 +7,7 @@
 -- not-both                     == s && t fails if both cannot hold
 -- one-of, either-left, either-right == s || t holds exactly if one of them holds
 -- pick-yes, pick-no            == what pick gives where its test holds or fails
+-- pick-both                    == two tests, one after the other
 -- bool-same                    == tests that imply one another are equal
 -- Assumes nothing.
 use mathlib.Core.Path.{_≡_, refl, sym}
@@ -80,6 +81,10 @@ pick-yes t x y h = rw h
 
 pub pick-no {ℓ} : {X : Type ℓ} (t : Bool) (x y : X) → t ≡ false → pick t x y ≡ y
 pick-no t x y h = rw h
+
+pub pick-both : {X : Type 0} (s t : Bool) (x y : X) → pick s (pick t x y) y ≡ pick (s && t) x y
+pick-both true t x y = refl
+pick-both false t x y = refl
 
 pub bool-same : (s t : Bool) → (s ≡ true → t ≡ true) → (t ≡ true → s ≡ true) → s ≡ t
 bool-same true t f g = sym (f refl)

@@ -9,8 +9,8 @@ use Prim.Native.Nat.{ℕ, _+_, _-_, _*_, _<_, _≤_}
 use native.Mathlib.Omega.{arith}
 use lib.ListN.{length, getD, take, drop, length-append, length-drop, List·getD-append}
 use lib.Seq.{getD-take, getD-drop, getD-append-add, length-take-le}
-use Rattle.bits.specs.Writes.{cleared}
-use Rattle.bits.proofs.Stores.{cleared-length, cleared-first}
+use Rattle.lending.proofs.Clearing.{cleared-length, cleared-first}
+use Rattle.answers.specs.Lent.{cleared}
 use Rattle.touring.specs.Working.{Outside, Zeroed, Charted}
 
 module _ (xs ys : List ℕ) where

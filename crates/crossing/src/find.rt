@@ -1,5 +1,5 @@
 // Check 7: the first two unmarked borders that alternate in the tour.
-use bits::wide;
+use lending::wide;
 use touring::border_in;
 ghost use mathlib.Core.Path.{_≡_};
 ghost use Prim.Native.Nat.{_+_, _*_, _<_};
@@ -22,7 +22,7 @@ pub fn find_crossing(marks: &[u8], work: &mut [u16]) -> Found
 {
     let found = follow(marks, work);
     let places = 2 * marks.len();
-    bits::clear(&mut work[2 * places..3 * places], places);
+    lending::clear(&mut work[2 * places..3 * places], places);
     found
 }
 

@@ -16,19 +16,20 @@ use lib.Dec.{eqb, ltb, leb}
 use borrow.Author.Tests.{ltb-true, leb-true}
 use Rattle.count.specs.Below.{pick}
 use Rattle.count.proofs.Logic.{true-or-false, both-left, both-right, pick-no}
+use Rattle.answers.specs.Answer.{answer, refused, Kind}
 use Rattle.words.specs.Brackets.{Bracket, Balanced, mate, step, number, first}
 use Rattle.words.specs.declared.family.Family.{Family}
 use Rattle.words.specs.declared.family.Family.the-variants.{Round as round, Square as square}
 use Rattle.words.specs.Word.{Letter, Word, seen, crossing, view}
 use Rattle.words.proofs.Step.{step-below}
 use Rattle.words.proofs.Same.{mate-same, step-same, back-same, number-same, isFirst-same, isLast-same, first-same, size-same}
-use Rattle.drawing.specs.Drawing.{Kind}
-use Rattle.drawing.specs.Session.{answer, refused, Call}
+use Rattle.drawing.specs.Session.{Call}
 use Rattle.drawing.specs.Neighbours.{landings}
 use Rattle.drawing.proofs.Neighbours.{neighbours-same, landings-same}
 use Rattle.words.proofs.Crossing.{crossing-below}
 use Rattle.words.proofs.Sizes.{first-below}
-use Rattle.format.specs.Calls.{familyOfKind, moveIn, atPlace, firstIn, placesIn, neighboursIn, landingsIn, joinIn}
+use Rattle.format.specs.Calls.{familyOfKind, moveIn, firstIn, placesIn, neighboursIn, landingsIn, joinIn}
+use Rattle.format.proofs.Places.{atPlace}
 
 pub record Alike (v w : Word) : Type 0 where
   pub sizes : v .size ≡ w .size

@@ -12,22 +12,25 @@ use Prim.Native.Nat.{ℕ}
 use lib.Dec.{ltb, leb}
 use lib.Ieee.{Float}
 use Rattle.count.specs.Below.{pick}
+use Rattle.count.proofs.Logic.{pick-both}
+use Rattle.answers.specs.Answer.{Answer, answer, refused, Size, Kind, noSuch}
 use Rattle.words.specs.Brackets.{Balanced, first}
 use Rattle.words.specs.declared.family.Family.{Family}
 use Rattle.words.specs.declared.family.Family.the-variants.{Round as round}
 use Rattle.words.specs.Word.{seen}
-use Rattle.drawing.specs.Drawing.{Drawing, Kind, cells}
+use Rattle.drawing.specs.Drawing.{Drawing, cells}
 use Rattle.drawing.specs.Checks.{PassesSeven}
-use Rattle.drawing.specs.Session.{Answer, answer, refused, Call}
-use Rattle.drawing.specs.Book.{bookAnswer, bookFirst, bookSize, bookNeighbours, bookJoining, noSuch}
-use Rattle.format.specs.Bytes.{Size, sizeIn, wordIn}
-use Rattle.format.specs.Open.{openRefusal, opened}
-use Rattle.format.proofs.Passes.{opened-opens}
-use Rattle.format.specs.Calls.{mapAnswer, atPlace, cellsIn, isNumber, firstOf, placesIn, sizeOf, neighboursIn, neighboursOf, joinIn, joiningOf}
+use Rattle.drawing.specs.Session.{Call}
+use Rattle.drawing.specs.Book.{bookAnswer, bookFirst, bookSize, bookNeighbours, bookJoining}
+use Rattle.format.specs.Bytes.{sizeIn, wordIn}
+use Rattle.format.specs.Open.{openRefusal}
+use Rattle.format.proofs.Passes.{opened-opens, opened}
+use Rattle.format.specs.Calls.{mapAnswer, cellsIn, isNumber, firstOf, placesIn, sizeOf, neighboursIn, neighboursOf, joinIn, joiningOf}
 use Rattle.format.specs.Pack.{wordOf, packedBytes}
+use Rattle.format.proofs.Places.{atPlace}
 use Rattle.tariff.specs.Tariff.{rated}
 use Rattle.tariff.specs.Book.{bookFactor}
-use Rattle.tariff.specs.Maps.{factorOf}
+use Rattle.tariff.specs.Maps.{factorIn, factorOf}
 use Rattle.agreement.specs.Toured.{Toured}
 use Rattle.agreement.proofs.Passed.{passes-toured, packed-opens, packed-size}
 use Rattle.agreement.proofs.Counts.{cells-in, cells-agree}
@@ -56,7 +59,7 @@ module _ (D : Drawing) (seven : PassesSeven D) where
   toured = passes-toured D seven
 
   pub packed-call : (c : Call) (i : ℕ) → mapAnswer (packedBytes D) c i ≡ bookAnswer D c i
-  unfolding mapAnswer
+  unfolding mapAnswer opened atPlace
   packed-call c i =
       opens-opened (packedBytes D) (atPlace (wordIn (packedBytes D)) c i) (packed-opens D seven)
       ∙ alike-call (wordIn (packedBytes D)) (wordOf D) (packed-alike D seven) c i
@@ -72,7 +75,7 @@ module _ (D : Drawing) (seven : PassesSeven D) where
       ap (λ (v : ℕ). ltb 0 k && leb k v) (packed-cells c ∙ cells-agree toured c)
 
   pub packed-first : (c : Kind) (k : ℕ) → firstOf (packedBytes D) c k ≡ bookFirst D c k
-  unfolding firstOf
+  unfolding firstOf opened
   packed-first c k =
       opens-opened (packedBytes D) _ (packed-opens D seven)
       ∙ ap₂ (λ (t : Bool) (x : ℕ). pick t (answer x) (refused (noSuch c))) (number-test c k)
@@ -80,7 +83,7 @@ module _ (D : Drawing) (seven : PassesSeven D) where
       ∙ sym (book-first toured c k)
 
   pub packed-size-of : (c : Kind) (k : ℕ) → sizeOf (packedBytes D) c k ≡ bookSize D c k
-  unfolding sizeOf
+  unfolding sizeOf opened
   packed-size-of c k =
       opens-opened (packedBytes D) _ (packed-opens D seven)
       ∙ ap₂ (λ (t : Bool) (x : ℕ). pick t (answer x) (refused (noSuch c))) (number-test c k)
@@ -88,7 +91,7 @@ module _ (D : Drawing) (seven : PassesSeven D) where
       ∙ sym (book-size toured c k)
 
   pub packed-neighbours : (k : ℕ) → neighboursOf (packedBytes D) k ≡ bookNeighbours D k
-  unfolding neighboursOf
+  unfolding neighboursOf opened
   packed-neighbours k =
       opens-opened (packedBytes D) _ (packed-opens D seven)
       ∙ ap₂ (λ (t : Bool) (x : ℕ). pick t (answer x) (refused 15)) (number-test Kind.area k)
@@ -97,7 +100,7 @@ module _ (D : Drawing) (seven : PassesSeven D) where
       ∙ sym (book-neighbours toured k)
 
   pub packed-factor : (k : ℕ) (kinds : List ℕ) (values : List Float) → factorOf (packedBytes D) k kinds values ≡ bookFactor D k kinds values
-  unfolding factorOf bookFactor
+  unfolding factorOf factorIn opened rated bookFactor
   packed-factor k kinds values =
       opens-opened (packedBytes D) _ (packed-opens D seven)
       ∙ ap₂ (λ (t : Bool) (a : Answer Float). pick t a (refused 15)) (number-test Kind.area k ∙ sym (numbers-agree toured Kind.area k))
@@ -105,9 +108,10 @@ module _ (D : Drawing) (seven : PassesSeven D) where
       (alike-landings (wordIn (packedBytes D)) (wordOf D) (packed-alike D seven) (nested-word D seven) k ∙ sym (book-landings toured k)))
 
   pub packed-joining : (u v : ℕ) → joiningOf (packedBytes D) u v ≡ bookJoining D u v
-  unfolding joiningOf
+  unfolding joiningOf opened
   packed-joining u v =
       opens-opened (packedBytes D) _ (packed-opens D seven)
+      ∙ pick-both (isNumber (sizeIn (packedBytes D)) Kind.point u) (isNumber (sizeIn (packedBytes D)) Kind.point v) _ (refused 14)
       ∙ ap₂ (λ (t : Bool) (x : ℕ). pick t (answer x) (refused 14))
       (ap₂ (λ (s t : Bool). s && t) (number-test Kind.point u) (number-test Kind.point v))
       (alike-joining (wordIn (packedBytes D)) (wordOf D) (packed-alike D seven) (nested-word D seven) v u)

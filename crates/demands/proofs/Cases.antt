@@ -3,9 +3,9 @@ use mathlib.Core.Path.{_≡_, refl}
 use mathlib.Core.Logic.{inl, inr}
 use mathlib.Core.List.{List, [], _∷_}
 use Prim.Native.Nat.{ℕ}
+use Rattle.answers.specs.Lent.{leaves}
 use Rattle.words.specs.Word.{seen, crossing}
-use Rattle.drawing.specs.Drawing.{Drawing}
-use Rattle.drawing.specs.Laid.{lent}
+use Rattle.drawing.specs.Drawing.{Drawing, lent}
 use Rattle.format.specs.Bytes.{wordIn, sizeIn}
 use Rattle.format.specs.Pack.{unpackOf}
 use Rattle.demands.specs.Statements.{turanBytes, leftIn, LastPlace}
@@ -24,5 +24,5 @@ pub record Cases : Type 0 where
   pub stub-last : LastPlace (wordIn stubMap) 0
 
 pub cases : Cases
-unfolding turanBytes unpackOf sizeIn wordIn seen crossing
+unfolding turanBytes unpackOf leaves sizeIn wordIn seen crossing
 cases = record { triangle-bytes = refl; stub-left = refl; stub-last = inr (inr (refl, refl)) }

@@ -18,6 +18,7 @@ use Rattle.count.specs.Below.{pick, total}
 use Rattle.count.proofs.Decides.{decides-lt, decides-le, decides-both}
 use Rattle.count.proofs.Counts.{count-zero}
 use Rattle.count.proofs.Logic.{true-or-false, true-not-false, both, one-of, either-left, either-right, pick-yes, pick-no}
+use Rattle.answers.specs.Answer.{Answer, answer, refused, Kind}
 use Rattle.orbits.specs.Cycles.{SameCycle}
 use Rattle.words.specs.Brackets.{Bracket, closes, opens, neither, isOpens, isCloses, Balanced, mate, step, back, number, inner, isFirst, isLast, first, size}
 use Rattle.words.specs.declared.family.Family.{Family}
@@ -27,14 +28,16 @@ use Rattle.words.proofs.Letters.{by-bracket, closes-not-neither}
 use Rattle.words.proofs.Mate.{mate-below, mate-opens, mate-neither}
 use Rattle.words.proofs.Numbers.{openings, number-positive, number-range, number-reached, first-inner}
 use Rattle.words.proofs.Sizes.{size-sum}
-use Rattle.drawing.specs.Drawing.{Drawing, Kind, borders, ends, around, cells, endAt, positionOf}
+use Rattle.drawing.specs.Drawing.{Drawing, borders, ends, around, cells, endAt, positionOf}
 use Rattle.drawing.specs.Checks.{PassesSeven}
-use Rattle.drawing.specs.Session.{Answer, answer, refused, Call}
+use Rattle.drawing.specs.Session.{Call}
 use Rattle.drawing.specs.Book.{endsOn, hasNumber, numberAt, bookAnswer}
 use Rattle.format.specs.Bytes.{sizeIn, bitsA, wordIn}
 use Rattle.format.specs.Open.{openRefusal}
-use Rattle.format.specs.Calls.{familyOfKind, atPlace, moveIn, mapAnswer, turnOf, turnBackOf, placesIn}
+use Rattle.format.specs.Calls.{familyOfKind, moveIn, mapAnswer, turnOf, turnBackOf, placesIn}
 use Rattle.format.specs.Pack.{wordOf, packedBytes}
+use Rattle.format.proofs.Places.{atPlace}
+use Rattle.format.proofs.Passes.{opened}
 use Rattle.agreement.specs.Toured.{Toured}
 use Rattle.agreement.proofs.Passed.{passes-toured}
 use Rattle.agreement.proofs.Cells.{same-cell, number-agrees, size-agrees}
@@ -163,7 +166,7 @@ module _ (w : Word) (nested : (K : Family) → Balanced (seen K w) (w .size)) (p
 -- the answer of a call, on bytes that open
 module _ (s : List ℕ) (passes : openRefusal s ≡ 0) (nested : (K : Family) → Balanced (seen K (wordIn s)) (wordIn s .size)) where
   answer-at : (c : Call) (p : ℕ) → p < wordIn s .size → mapAnswer s c (suc p) ≡ answer (moveIn (wordIn s) c p)
-  unfolding mapAnswer
+  unfolding mapAnswer opened atPlace
   answer-at c p l = opens-opened s (atPlace (wordIn s) c (suc p)) passes ∙ at-place (wordIn s) c p l
 
   -- an answer is 0 exactly if the move is

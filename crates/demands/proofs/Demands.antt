@@ -29,21 +29,21 @@ use Rattle.count.specs.Below.{pick}
 use lib.Dec.{leb}
 use borrow.Author.Tests.{le-leb}
 use Rattle.count.proofs.Logic.{both, pick-yes}
-use Rattle.drawing.specs.Drawing.{Drawing, Kind, borders, cells, ends}
+use Rattle.answers.specs.Lent.{laid, leaves}
+use Rattle.answers.specs.Answer.{Answer, answer, refusedWith, refused, numberOf, Size, Kind}
+use Rattle.drawing.specs.Drawing.{Drawing, borders, cells, ends}
 use Rattle.drawing.specs.Checks.{crosses, firstCrossing, FirstCrossing, PassesSix, PassesSeven}
 use Rattle.drawing.proofs.Crossing.{first-crossing}
-use Rattle.drawing.specs.Laid.{turningAfter, marksAfter}
 use Rattle.drawing.specs.Renumbered.{renumbered}
-use Rattle.drawing.specs.Session.{Answer, answer, refusedWith, refused, numberOf}
 use Rattle.drawing.specs.Book.{bookAnswer, bookSession}
-use Rattle.format.specs.Bytes.{Size, areasOf, sizeIn, writtenAreas, mapLength, wordIn}
+use Rattle.format.specs.Bytes.{areasOf, sizeIn, writtenAreas, mapLength, wordIn}
 use Rattle.format.specs.Open.{openRefusal, Opens, openOf}
 use Rattle.format.specs.Calls.{pointOf, areaOf, mapSession, mapAnswer}
 use Rattle.format.specs.Pack.{wordOf, sizeFor, packedBytes, Room, packChecks, packRefusal, packOf, drawingOf, unpackOf}
 use Rattle.format.specs.Fits.{Fits}
-use Rattle.refusals.specs.Checks.{Check}
-use Rattle.refusals.proofs.Steps.{checked-none, answered-all, answered-none, by-refusals}
-use Rattle.format.proofs.Passes.{opens-passes}
+use Rattle.answers.specs.Checks.{Check}
+use Rattle.answers.proofs.Steps.{checked-none, answered-all, answered-none, by-refusals}
+use Rattle.format.proofs.Passes.{opens-passes, opened, after-opens}
 use Rattle.format.proofs.Refusals.{pack-accepts, pack-crosses}
 pub use Rattle.format.proofs.Passes.{open-refusals}
 pub use Rattle.format.proofs.Refusals.{pack-refusals}
@@ -163,23 +163,23 @@ module _ (s : List ℕ) (opens : Opens s) where
       ∙ ap answer unpacked-bytes
 
   unpacked-answer : (t k : ℕ) → 2 * sizeIn s .m ≤ t → sizeIn s .m ≤ k → unpackOf s t k ≡ answer unpackedOf
-  unfolding unpackOf
+  unfolding unpackOf opened
   unpacked-answer t k lt lk =
       opens-opened s _ (opens .passes) ∙ room-unpacks (sizeIn s .m) t k (answer unpackedOf) (refused 16) lt lk
 
   -- lists that hold the drawing first are left with it
   unpacked-left : (turning marks : List ℕ) → 2 * sizeIn s .m ≤ length turning → sizeIn s .m ≤ length marks → leftIn s turning marks ≡ unpackedOf
-  unfolding borders
+  unfolding borders leaves
   unpacked-left turning marks lt lk =
       let m : ℕ = sizeIn s .m in
       let a = unpacked-answer (length turning) (length marks) lt lk in
       let half = unpacked-passes .six .lengths .half in
       let size : borders unpackedOf ≡ m = unpacked-size in
-      let t : take (2 * m) (turningAfter (unpackOf s (length turning) (length marks)) turning) ≡ unpackedOf .turning
-      = ap (λ x. take (2 * m) (turningAfter x turning)) a
+      let t : take (2 * m) (leaves (λ (D : Drawing). laid (D .turning)) (unpackOf s (length turning) (length marks)) turning) ≡ unpackedOf .turning
+      = ap (λ x. take (2 * m) (leaves (λ (D : Drawing). laid (D .turning)) x turning)) a
       ∙ take-at (unpackedOf .turning) (drop (length (unpackedOf .turning)) turning) (2 * m) (omega arith) in
-      let k : take m (marksAfter (unpackOf s (length turning) (length marks)) marks) ≡ unpackedOf .marks
-      = ap (λ x. take m (marksAfter x marks)) a ∙ take-at (unpackedOf .marks) (drop (length (unpackedOf .marks)) marks) m size in
+      let k : take m (leaves (λ (D : Drawing). laid (D .marks)) (unpackOf s (length turning) (length marks)) marks) ≡ unpackedOf .marks
+      = ap (λ x. take m (leaves (λ (D : Drawing). laid (D .marks)) x marks)) a ∙ take-at (unpackedOf .marks) (drop (length (unpackedOf .marks)) marks) m size in
       let z : _≡_ {A = ℕ} 0 (unpackedOf .start) = sym unpacked-start in
       λ i. record { turning = t i; marks = k i; start = z i }
 
@@ -199,7 +199,7 @@ module _ (s : List ℕ) (opens : Opens s) where
 
 trip-renumbered : (D : Drawing) → PassesSeven D → (turnings marks : ℕ) → ends D ≤ turnings → borders D ≤ marks
     → unpackOf (packedBytes D) turnings marks ≡ answer (renumbered D)
-unfolding unpackOf ends
+unfolding unpackOf opened ends
 trip-renumbered D seven t k lt lk =
     let z : sizeIn (packedBytes D) .m ≡ borders D = ap (λ (z : Size). z .m) (packed-size D seven) in
     opens-opened (packedBytes D) _ (packed-opens D seven)
@@ -227,7 +227,7 @@ module _ (D : Drawing) (seven : PassesSeven D) where
   packed-open-of : openOf (packedBytes D) ≡ answer (sizeFor D)
   unfolding openOf
   packed-open-of =
-      opens-opened (packedBytes D) (answer (sizeIn (packedBytes D))) (packed-opens D seven) ∙ ap answer (packed-size D seven)
+      after-opens (packedBytes D) (sizeIn (packedBytes D)) (packed-opens D seven) ∙ ap answer (packed-size D seven)
 
   pub demand-3-sessions : Sessions D (packedBytes D)
   unfolding mapSession bookSession
@@ -307,7 +307,7 @@ unpacked-is true U D e = cc
 unpacked-is false U D e = let z : _≡_ {A = ℕ} 0 1 = cc in absurd (omega arith)
 
 pub unpacked-agrees : (s : List ℕ) → Opens s → (turnings marks : ℕ) (D : Drawing) → unpackOf s turnings marks ≡ answer D → Agrees D s
-unfolding unpackOf
+unfolding unpackOf opened
 unpacked-agrees s opens turnings marks D e =
     subst (λ x. Agrees x s)
     (unpacked-is (leb (2 * sizeIn s .m) turnings && leb (sizeIn s .m) marks) (drawingOf (wordIn s)) D (sym (opens-opened s _ (opens .passes)) ∙ e))

@@ -16,25 +16,26 @@ use Rattle.count.specs.Below.{Decides, pick, count}
 use Rattle.count.proofs.Logic.{true-or-false, both-left, both-right, bool-same, pick-yes, pick-no}
 use Rattle.count.proofs.Decides.{decides-lt, decides-le, decides-both}
 use Rattle.count.proofs.Counts.{count-same}
-use Rattle.drawing.specs.Session.{Answer, answer, refusedWith, refused, numberOf}
+use Rattle.answers.specs.Answer.{Answer, answer, refusedWith, refused, numberOf, Kind}
 use Rattle.drawing.specs.Neighbours.{Across, isAcross, neighbours}
 use Rattle.drawing.proofs.Neighbours.{across-is, across-mutual, neighbours-most, neighbours-none}
-use Rattle.drawing.specs.Drawing.{Drawing, Kind, borders, ends, other, cells}
+use Rattle.drawing.specs.Drawing.{Drawing, borders, ends, other, cells}
 use Rattle.drawing.specs.Session.{Call}
 use Rattle.drawing.specs.Book.{numberAt, hasNumber, endsOn, bookSize, bookNeighbours}
 use Rattle.drawing.proofs.Ends.{other-other, other-end}
-use Rattle.refusals.proofs.Steps.{checked-answers}
+use Rattle.answers.proofs.Steps.{checked-answers}
 use Rattle.words.specs.Brackets.{Balanced, number, size}
 use Rattle.words.specs.declared.family.Family.{Family}
 use Rattle.words.specs.declared.family.Family.the-variants.{Square as square}
 use Rattle.words.specs.Word.{seen, crossing}
 use Rattle.words.proofs.Crossing.{crossing-below, crossing-involutive}
 use Rattle.format.specs.Bytes.{sizeIn, wordIn}
-use Rattle.format.specs.Open.{openChecks, openRefusal, opened}
-use Rattle.format.specs.Calls.{moveIn, atPlace, mapAnswer, crossOf, areaOf, cellsIn, isNumber, placesIn, sizeOf, neighboursIn, neighboursOf}
+use Rattle.format.specs.Open.{openChecks, openRefusal}
+use Rattle.format.specs.Calls.{moveIn, mapAnswer, crossOf, areaOf, cellsIn, isNumber, placesIn, sizeOf, neighboursIn, neighboursOf}
 use Rattle.format.proofs.Decode.{passes-nested}
 use Rattle.format.proofs.Openings.{cells-numbers, number-cells}
-use Rattle.format.proofs.Passes.{opens-passes}
+use Rattle.format.proofs.Passes.{opens-passes, opened}
+use Rattle.format.proofs.Places.{atPlace}
 use Rattle.agreement.specs.Toured.{Toured}
 use Rattle.agreement.proofs.Counts.{cells-agree}
 use Rattle.agreement.proofs.Passed.{passes-toured}
@@ -108,11 +109,11 @@ module _ (s : List ℕ) where
   crosses = crossing (wordIn s)
 
   asked-opens : (c : Call) (i x : ℕ) → mapAnswer s c i ≡ answer x → openRefusal s ≡ 0
-  unfolding mapAnswer opened openRefusal
+  unfolding mapAnswer atPlace openRefusal
   asked-opens c i x e = checked-answers (openChecks s) (atPlace (wordIn s) c i) x e .0
 
   asked-place : (c : Call) (i x : ℕ) → mapAnswer s c i ≡ answer x → atPlace (wordIn s) c i ≡ answer x
-  unfolding mapAnswer opened
+  unfolding mapAnswer atPlace
   asked-place c i x e = checked-answers (openChecks s) (atPlace (wordIn s) c i) x e .1
 
   placed : (c : Call) (i x : ℕ) → atPlace (wordIn s) c i ≡ answer x → (suc (pred i) ≡ i) × (pred i < wordIn s .size)
@@ -149,11 +150,11 @@ module _ (s : List ℕ) where
 
   module _ (o : openRefusal s ≡ 0) where
     area-answers : (p : ℕ) → p < wordIn s .size → areaOf s (suc p) ≡ answer (area p)
-    unfolding areaOf mapAnswer moveIn
+    unfolding areaOf mapAnswer opened atPlace moveIn
     area-answers p l = opens-opened s (atPlace (wordIn s) Call.area (suc p)) o ∙ at-place (wordIn s) Call.area p l
 
     cross-answers : (p : ℕ) → p < wordIn s .size → crossOf s (suc p) ≡ answer (suc (crosses p))
-    unfolding crossOf mapAnswer moveIn
+    unfolding crossOf mapAnswer opened atPlace moveIn
     cross-answers p l = opens-opened s (atPlace (wordIn s) Call.cross (suc p)) o ∙ at-place (wordIn s) Call.cross p l
 
     nested : (K : Family) → Balanced (seen K (wordIn s)) (wordIn s .size)
@@ -185,7 +186,7 @@ module _ (s : List ℕ) where
     map-known k = let d = decides-both (decides-lt 0 k) (decides-le k (cellsIn (sizeIn s) Kind.area)) in (d .sound, d .complete)
 
     map-counts : NeighbourCounts (sizeIn s .m) (cellsIn (sizeIn s) Kind.area) (MapAcross s) (neighboursOf s) (sizeOf s Kind.area)
-    unfolding wordIn neighboursOf neighboursIn sizeOf placesIn size
+    unfolding wordIn neighboursOf neighboursIn sizeOf placesIn size opened
     map-counts =
         let v : ℕ = cellsIn (sizeIn s) Kind.area in
         neighbour-counts area crosses (wordIn s .size) (sizeIn s .m) v

@@ -9,24 +9,24 @@ use Prim.Native.Nat.{ℕ, suc, _<_}
 use native.Mathlib.Omega.{arith}
 use Rattle.count.specs.Below.{table}
 use Rattle.count.proofs.Lists.{table-same}
-use Rattle.drawing.specs.Drawing.{Drawing, Kind, cells}
-use Rattle.drawing.specs.Session.{Answer, answer, valueOf}
+use Rattle.answers.specs.Answer.{Answer, answer, valueOf, Size, Kind}
+use Rattle.drawing.specs.Drawing.{Drawing, cells}
 use Rattle.drawing.specs.Book.{bookFirst, bookSize}
-use Rattle.format.specs.Bytes.{Size, sizeIn}
+use Rattle.format.specs.Bytes.{sizeIn}
 use Rattle.format.specs.Open.{openRefusal, openOf}
 use Rattle.format.specs.Calls.{cellsIn}
 use Rattle.format.specs.Pack.{sizeFor}
 use Rattle.text.specs.Listing.{shown}
+use Rattle.format.proofs.Passes.{after-opens}
 use Rattle.text.specs.Schedule.{Row, rowOf, rowsOf, bookRows, scheduleText, schedule, scheduleOf}
 use Rattle.text.proofs.Schedule.{schedule-answers}
 use Rattle.demands.specs.Statements.{Numbers, CellCounts}
-use Rattle.demands.proofs.Answers.{opens-opened}
 
 module _ (D : Drawing) (s : List ℕ) (o : openRefusal s ≡ 0) (z : openOf s ≡ answer (sizeFor D)) (N : Numbers D s) (C : CellCounts D) where
   same-size : sizeIn s ≡ sizeFor D
   unfolding openOf
   same-size =
-      let e : answer (sizeIn s) ≡ answer (sizeFor D) = sym (opens-opened s (answer (sizeIn s)) o) ∙ z in cc
+      let e : answer (sizeIn s) ≡ answer (sizeFor D) = sym (after-opens s (sizeIn s) o) ∙ z in cc
 
   same-areas : cellsIn (sizeIn s) Kind.area ≡ cells D Kind.area
   same-areas =
@@ -55,4 +55,4 @@ module _ (D : Drawing) (s : List ℕ) (o : openRefusal s ≡ 0) (z : openOf s �
 
   pub schedule-book : scheduleOf s ≡ scheduleText (bookRows D)
   unfolding scheduleOf schedule shown
-  schedule-book = ap (shown schedule) (opens-opened s (answer s) o) ∙ ap scheduleText schedule-rows
+  schedule-book = ap (shown schedule) (after-opens s s o) ∙ ap scheduleText schedule-rows

@@ -13,10 +13,9 @@ use Prim.Native.Nat.{ℕ, _<_, max}
 use lib.ListN.{length}
 use Rattle.count.proofs.Logic.{true-or-false}
 use Rattle.count.proofs.Decides.{decides-refutes}
-use Rattle.drawing.specs.Drawing.{Drawing, borders, ends}
+use Rattle.drawing.specs.Drawing.{Drawing, borders, ends, lent}
 use Rattle.drawing.specs.Checks.{PassesFour, PassesSix, crosses, firstCrossing}
 use Rattle.drawing.specs.Tree.{SuggestedTree}
-use Rattle.drawing.specs.Laid.{lent}
 use Rattle.drawing.proofs.Crossing.{crosses-decides, first-crossing}
 use Rattle.tours.proofs.Trees.{connected-tree as tree-exactly, suggested-six}
 use Rattle.format.specs.Suggest.{Suggests}

@@ -2,3 +2,4 @@
 pub mod Statements
 pub mod Neighbours
 pub mod Suggested
+pub mod Rehearsal

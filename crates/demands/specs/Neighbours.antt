@@ -14,8 +14,8 @@ use mathlib.Core.List.{List}
 use Prim.Native.Nat.{ℕ, suc, _≤_}
 use lib.Dec.{eqb}
 use Rattle.count.specs.Below.{Decides, count}
-use Rattle.drawing.specs.Drawing.{Drawing, Kind, borders, ends, other, cells}
-use Rattle.drawing.specs.Session.{Answer, answer, numberOf}
+use Rattle.answers.specs.Answer.{Answer, answer, numberOf, Kind}
+use Rattle.drawing.specs.Drawing.{Drawing, borders, ends, other, cells}
 use Rattle.drawing.specs.Neighbours.{Across}
 use Rattle.drawing.specs.Book.{numberAt, bookSize, bookNeighbours}
 use Rattle.format.specs.Bytes.{sizeIn}

@@ -25,17 +25,18 @@ use Prim.Native.Nat.{ℕ, suc, pred, _+_, _*_, _≤_, _<_}
 use lib.Ieee.{Float}
 use lib.ListN.{length, take}
 use Rattle.count.specs.Below.{table, gather, total}
+use Rattle.answers.specs.Lent.{laid, leaves}
+use Rattle.answers.specs.Answer.{Answer, answer, refusedWith, numberOf, Size, Kind}
 use Rattle.orbits.specs.Cycles.{SameCycle}
 use Rattle.words.specs.Brackets.{closes, first, number}
 use Rattle.words.specs.declared.family.Family.the-variants.{Round as round}
 use Rattle.words.specs.Word.{Word, seen, crossing}
-use Rattle.drawing.specs.Drawing.{Drawing, Kind, borders, ends, border, isMarked, around, cells, endAt, isSecond}
+use Rattle.drawing.specs.Drawing.{Drawing, borders, ends, border, isMarked, around, cells, endAt, isSecond, lent}
 use Rattle.drawing.specs.Renumbered.{renumbered}
-use Rattle.drawing.specs.Laid.{lent, turningAfter, marksAfter}
 use Rattle.drawing.specs.Checks.{PassesSix, PassesSeven, Crossing, firstCrossing, FirstCrossing}
-use Rattle.drawing.specs.Session.{Answer, answer, refusedWith, numberOf, Call}
+use Rattle.drawing.specs.Session.{Call}
 use Rattle.drawing.specs.Book.{bookSession, bookFirst, bookSize, bookNeighbours, bookJoining, numberAt, hasNumber, endsOn}
-use Rattle.format.specs.Bytes.{Size, headerOf, sizeIn, writtenAreas, wordIn, bytesOf, closingBit, longest, mapLength}
+use Rattle.format.specs.Bytes.{headerOf, sizeIn, writtenAreas, wordIn, bytesOf, closingBit, longest, mapLength}
 use Rattle.format.specs.Open.{Opens, openOf}
 use Rattle.format.specs.Calls.{mapSession, turnOf, turnBackOf, pointOf, areaOf, firstOf, sizeOf, neighboursOf, joiningOf}
 use Rattle.format.specs.Pack.{Room, sizeFor, packedBytes, packOf, unpackOf}
@@ -77,7 +78,7 @@ pub record Exact (D : Drawing) (work out : ℕ) : Type 0 where
 abbrev pub leftIn : List ℕ → List ℕ → List ℕ → Drawing
 leftIn s turning marks =
     let a : Answer Drawing = unpackOf s (length turning) (length marks) in
-    lent (take (2 * sizeIn s .m) (turningAfter a turning)) (take (sizeIn s .m) (marksAfter a marks)) 0
+    lent (take (2 * sizeIn s .m) (leaves (λ (D : Drawing). laid (D .turning)) a turning)) (take (sizeIn s .m) (leaves (λ (D : Drawing). laid (D .marks)) a marks)) 0
 
 -- Demand 2: "Every byte string accepted on opening unpacks to a drawing that packs to the same bytes." First of the drawing,
 -- then of any lists that are long enough, whatever they held before.

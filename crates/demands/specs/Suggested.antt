@@ -9,12 +9,11 @@ use mathlib.Core.Logic.{_⊎_, _↔_}
 use mathlib.Core.List.{List}
 use Prim.Native.Nat.{ℕ, _*_, _≤_}
 use lib.ListN.{length}
-use Rattle.refusals.specs.Checks.{after, InOrder}
-use Rattle.drawing.specs.Drawing.{Drawing, borders}
+use Rattle.answers.specs.Checks.{after, InOrder}
+use Rattle.answers.specs.Answer.{answer, refusedWith}
+use Rattle.drawing.specs.Drawing.{Drawing, borders, lent}
 use Rattle.drawing.specs.Checks.{Connected, PassesFour, PassesSix, firstCrossing}
 use Rattle.drawing.specs.Tree.{SuggestedTree}
-use Rattle.drawing.specs.Session.{answer, refusedWith}
-use Rattle.drawing.specs.Laid.{lent}
 use Rattle.format.specs.Pack.{Room, packOf}
 use Rattle.format.specs.Suggest.{marksChecks, marksRefusal}
 use Rattle.demands.specs.Statements.{turanBytes}

@@ -4,9 +4,10 @@ use mathlib.Core.Path.{_≡_, refl}
 use mathlib.Core.Bool.{true, false}
 use mathlib.Core.List.{List, [], _∷_}
 use Prim.Native.Nat.{ℕ}
+use Rattle.answers.specs.Answer.{answer}
 use Rattle.drawing.specs.Drawing.{Drawing, positionOf}
 use Rattle.drawing.specs.Checks.{joined, connected, fewMarks, crosses, firstCrossing}
-use Rattle.drawing.specs.Session.{answer, Call}
+use Rattle.drawing.specs.Session.{Call}
 use Rattle.drawing.specs.Book.{bookSession, bookLandings}
 
 abbrev interlaced : List ℕ → Drawing

@@ -12,9 +12,10 @@ use native.Mathlib.Omega.{arith}
 use lib.Dec.{eqb}
 use borrow.Author.Tests.{eq-eqb, ne-eqb}
 use Rattle.count.proofs.Logic.{lt-or-ge, pick-yes, pick-no}
+use Rattle.answers.specs.Answer.{Kind}
 use Rattle.orbits.specs.Cycles.{cycles}
 use Rattle.orbits.proofs.Classes.{cycles-pos}
-use Rattle.drawing.specs.Drawing.{Drawing, Kind, borders, ends, turn, over, walk, around, cells}
+use Rattle.drawing.specs.Drawing.{Drawing, borders, ends, turn, over, walk, around, cells}
 
 pub cells-none : (D : Drawing) (c : Kind) → borders D ≡ 0 → cells D c ≡ 1
 unfolding cells

@@ -9,7 +9,8 @@ use lib.ListN.{length, getD}
 use lib.Dec.{eqb, ltb, leb}
 use Rattle.count.specs.Below.{Decides, all}
 use Rattle.count.proofs.Decides.{decides-eq, decides-le, decides-lt, decides-not, decides-both, decides-all, decides-as}
-use Rattle.drawing.specs.Drawing.{mostEnds, Drawing, Kind, borders, ends, turn, cells}
+use Rattle.answers.specs.Answer.{Kind}
+use Rattle.drawing.specs.Drawing.{mostEnds, Drawing, borders, ends, turn, cells}
 use Rattle.drawing.specs.Checks.{LengthsFit, lengthsFit, EntriesFit, entriesFit, InRange, inRange, Distinct, distinct, FewMarks, fewMarks, markCount}
 
 pub lengths-decides : (D : Drawing) → Decides (lengthsFit D) (LengthsFit D)

@@ -32,12 +32,12 @@ use Rattle.count.proofs.Logic.{same-or-not, true-or-false, pick-yes, pick-no}
 use Rattle.count.proofs.Search.{all-has, all-from}
 use Rattle.count.proofs.Lists.{table-length, table-getD}
 use Rattle.count.proofs.Decides.{decides-eq, decides-all, decides-as}
+use Rattle.answers.specs.Answer.{Kind}
 use Rattle.orbits.specs.Cycles.{Permutes, SameCycle, low}
 use Rattle.orbits.proofs.Same.{same-cycle-induct}
 use Rattle.orbits.proofs.Low.{low-same-cycle, low-step}
-use Rattle.drawing.specs.Drawing.{Drawing, Kind, borders, ends, border, other, turn, isMarked, everyBorder, around, walk, over, cellOf}
+use Rattle.drawing.specs.Drawing.{Drawing, borders, ends, border, other, turn, isMarked, everyBorder, around, walk, over, cellOf, lent}
 use Rattle.drawing.specs.Checks.{Linked, here, turned, crossing, Joins, Joined, Connected, labels, relabel, mergeAt, allSame, joins, joined, connected}
-use Rattle.drawing.specs.Laid.{lent}
 use Rattle.drawing.proofs.Ends.{other-even, other-odd, other-border, other-below, border-below}
 
 unfoldable pub label : Drawing → (ℕ → Bool) → ℕ → ℕ → ℕ

@@ -7,7 +7,6 @@
 -- entryTo D h        == the end whose entry is h
 -- bookAnswer D c i   == the book's answer to the call c at place i
 -- bookSession D i cs == a session on the book
--- noSuch c           == the refusal of a number that no point (area) has: 14 or 15
 -- hasNumber D c k    == whether k is one of the numbers 1 to the number of points (areas)
 -- firstPosition D c k == the lowest position on the point (area) k
 -- endsOn D c k       == how many ends are on the point (area) k
@@ -19,9 +18,10 @@ use mathlib.Core.List.{List}
 use Prim.Native.Nat.{ℕ, zero, suc, pred}
 use lib.Dec.{eqb, ltb, leb}
 use Rattle.count.specs.Below.{pick, find, count}
-use Rattle.drawing.specs.Drawing.{Drawing, Kind, borders, ends, other, turn, around, cellOf, cells, endAt, positionOf}
+use Rattle.answers.specs.Answer.{Answer, answer, refused, Kind, noSuch}
+use Rattle.drawing.specs.Drawing.{Drawing, borders, ends, other, turn, around, cellOf, cells, endAt, positionOf}
 use Rattle.drawing.specs.Neighbours.{neighbours, landings}
-use Rattle.drawing.specs.Session.{Answer, answer, refused, Call, Outcome, session}
+use Rattle.drawing.specs.Session.{Call, Outcome, session}
 
 -- 01: "its tour, which gives each end its place"
 unfoldable pub placeOf : Drawing → ℕ → ℕ
@@ -66,11 +66,6 @@ bookAnswer D c i = pick (ltb 0 i && leb i (ends D)) (answer (answerAt D c (endAt
 unfoldable pub bookSession : Drawing → ℕ → List Call → Outcome
 unfolding session bookAnswer
 bookSession D i cs = session (bookAnswer D) i cs
-
--- 01: "A point number that no point has gets 14, an area number that no area has 15."
-abbrev pub noSuch : Kind → ℕ
-noSuch Kind.point = 14
-noSuch Kind.area = 15
 
 unfoldable pub hasNumber : Drawing → Kind → ℕ → Bool
 unfolding cells

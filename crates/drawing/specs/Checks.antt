@@ -35,7 +35,8 @@ use Prim.Native.Nat.{ℕ, zero, suc, _*_, _<_, _≤_, min, max}
 use lib.ListN.{length, getD}
 use lib.Dec.{eqb, ltb, leb}
 use Rattle.count.specs.Below.{pick, count, all, any, find, table}
-use Rattle.drawing.specs.Drawing.{mostEnds, Drawing, Kind, borders, ends, border, other, turn, isMarked, everyBorder, cellOf, cells, endAt}
+use Rattle.answers.specs.Answer.{Kind}
+use Rattle.drawing.specs.Drawing.{mostEnds, Drawing, borders, ends, border, other, turn, isMarked, everyBorder, cellOf, cells, endAt}
 
 -- 1: "turning list odd in length or over 4,096, or marks not half as long"
 pub record LengthsFit (D : Drawing) : Type 0 where

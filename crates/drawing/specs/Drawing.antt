@@ -2,6 +2,7 @@
 --
 -- mostBorders, mostEnds == m at most, 2m at most
 -- Drawing          == turning list (rotation system), marks, start
+-- lent ts ms s     == the drawing lent as the turning list ts, the marks ms and the start s
 -- borders D        == m, the number of borders (edges)
 -- ends D           == 2m, the number of ends (half-edges, darts)
 -- other h          == the other end of h's border
@@ -12,7 +13,6 @@
 -- everyBorder e    == the set of all borders
 -- over S h         == h's other end if its border is in the set S, else h itself
 -- walk D S h       == the turning-list entry of `over S h`: cross if the border is in S, then turn
--- Kind             == what a cell is: a point (vertex) or an area (face)
 -- around D c h     == the next end about h's point, or on h's area walk
 -- cellOf D c h     == the point (area) of end h, named by its least end
 -- cells D c        == the number of points (n), of areas
@@ -26,6 +26,7 @@ use Prim.Native.Nat.{ℕ, suc, pred, _*_, _/_, _%_}
 use lib.ListN.{length, getD}
 use lib.Dec.{eqb}
 use Rattle.count.specs.Below.{pick, any, find}
+use Rattle.answers.specs.Answer.{Kind}
 use Rattle.orbits.specs.Cycles.{iter, low, cycles}
 
 -- 01: "m at most 2,048"; check 1: a "turning list .. over 4,096" is refused
@@ -40,6 +41,9 @@ pub record Drawing : Type 0 where
   pub turning : List ℕ
   pub marks : List ℕ
   pub start : ℕ
+
+abbrev pub lent : List ℕ → List ℕ → ℕ → Drawing
+lent ts ms s = record { turning = ts; marks = ms; start = s }
 
 -- 01: "It has m borders"; "The mark list has one byte per border"
 unfoldable pub borders : Drawing → ℕ
@@ -77,14 +81,11 @@ unfoldable pub walk : Drawing → (ℕ → Bool) → ℕ → ℕ
 unfolding turn over
 walk D S h = turn D (over S h)
 
-pub data Kind : Type 0 where
-  point area : Kind
-
 -- 01: "A point is one cycle of that list." About a point no border is crossed. "An area walk repeats: from end h go to
 -- the turning-list entry of h's other end." Along an area every border is crossed.
 abbrev pub crossed : Kind → ℕ → Bool
-crossed point e = false
-crossed area e = true
+crossed Kind.point e = false
+crossed Kind.area e = true
 
 unfoldable pub around : Drawing → Kind → ℕ → ℕ
 unfolding walk

@@ -4,6 +4,5 @@ pub mod Renumbered
 pub mod Checks
 pub mod Tree
 pub mod Session
-pub mod Laid
 pub mod Neighbours
 pub mod Book

@@ -1,6 +1,5 @@
 -- Calls and sessions: the same for the book and for the packed map (document 01, "The drawing's book").
 --
--- Answer, refused, numberOf, carriedBy, valueOf == those of the crate `refusals`, passed on
 -- Call             == the six calls of a session
 -- isMove c         == whether the answer of c is the new place: cross, turn, turn back and along
 -- placeAfter c a p == the place after the call c was answered by a at place p
@@ -11,8 +10,8 @@ use mathlib.Core.Bool.{Bool, true, false}
 use mathlib.Core.List.{List, [], _∷_}
 use Prim.Native.Nat.{ℕ}
 use Rattle.count.specs.Below.{pick}
-pub use Rattle.refusals.specs.Answer.{Answer, answer, refusedWith, refused}
-unfoldable pub use Rattle.refusals.specs.Answer.{numberOf, carriedBy, valueOf}
+pub use Rattle.answers.specs.Answer.{Answer, answer, refusedWith, refused}
+unfoldable pub use Rattle.answers.specs.Answer.{numberOf, carriedBy, valueOf}
 
 pub data Call : Type 0 where
   cross turn turn-back along point area : Call

@@ -8,7 +8,8 @@ use mathlib.Core.List.{List}
 use Prim.Native.Nat.{ℕ, suc, _<_, _≤_}
 use lib.ListN.{length, getD}
 use Rattle.count.specs.Below.{count}
-use Rattle.drawing.specs.Drawing.{Drawing, Kind, borders, marked, cells}
+use Rattle.answers.specs.Answer.{Kind}
+use Rattle.drawing.specs.Drawing.{Drawing, borders, marked, cells}
 use Rattle.drawing.specs.Checks.{Joins}
 
 -- 02, 7/14: "every mark is 0 or 1, n-1 are 1, and those borders join all points". One mark for each border, as 01 has it.

@@ -4,10 +4,10 @@ use mathlib.Core.Path.{_≡_, refl}
 use mathlib.Core.Bool.{true, false}
 use mathlib.Core.List.{List, [], _∷_}
 use Prim.Native.Nat.{ℕ}
+use Rattle.answers.specs.Answer.{answer, refusedWith}
 use Rattle.words.specs.declared.family.Family.the-variants.{Round as round, Square as square}
 use Rattle.words.specs.Word.{Letter}
 use Rattle.drawing.specs.Drawing.{Drawing}
-use Rattle.drawing.specs.Session.{answer, refusedWith}
 use Rattle.format.specs.Bytes.{longest, wordIn}
 use Rattle.format.specs.Calls.{joiningOf}
 use Rattle.format.specs.Pack.{packOf}

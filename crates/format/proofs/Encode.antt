@@ -17,13 +17,14 @@ use lib.Dec.{eqb}
 use Rattle.count.specs.Below.{pick, count}
 use Rattle.count.proofs.Logic.{pick-yes, pick-no}
 use Rattle.count.proofs.Below.{count-same}
+use Rattle.answers.specs.Answer.{Size}
 use Rattle.words.specs.Brackets.{opens, closes, neither}
 use Rattle.words.specs.declared.family.Family.{Family}
 use Rattle.words.specs.declared.family.Family.the-variants.{Round as round, Square as square}
 use Rattle.words.specs.Word.{Letter, Word, seen}
 use Rattle.words.proofs.Thin.{Thins, thin-balanced}
 use Rattle.bits.specs.Strings.{bit, isBit, rank, brackets}
-use Rattle.format.specs.Bytes.{le16, Size, areasOf, headerOf, sizeIn, bitsA, bitsB, partB, familyOf, familyBit, closingBit, letterIn, wordIn}
+use Rattle.format.specs.Bytes.{le16, areasOf, headerOf, sizeIn, bitsA, bitsB, partB, familyOf, familyBit, closingBit, letterIn, wordIn}
 use Rattle.format.specs.Bytes.{stringA, stringB, bytesOf, mapBytes, mapLength, startB}
 use Rattle.format.specs.Open.{openRefusal}
 use Rattle.format.proofs.Bits.{EachBelow, bytes-of-bit, bytes-of-unused, bytes-of-small}

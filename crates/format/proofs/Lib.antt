@@ -4,6 +4,8 @@ pub mod Bits
 pub mod Strings
 pub mod Parts
 pub mod Passes
+pub mod Places
+pub mod Orders
 pub mod Refusals
 pub mod Suggest
 pub mod Encode

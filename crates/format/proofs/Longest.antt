@@ -16,10 +16,11 @@ use lib.ListN.{length, getD, take}
 use lib.Seq.{getD-take, length-take-le, take-all}
 use borrow.Author.Tests.{ne-eqb, le-leb}
 use Rattle.count.proofs.Logic.{lt-or-ge, true-or-false}
+use Rattle.answers.specs.Answer.{Size}
 use Rattle.bits.specs.Strings.{bytesFor}
 use Rattle.drawing.specs.Drawing.{mostBorders}
-use Rattle.format.specs.Bytes.{atM, atN, atAreas, header, Size, areasOf, sizeIn, writtenAreas, le16At, startB, mapLength, longest}
-use Rattle.refusals.specs.Checks.{unless}
+use Rattle.format.specs.Bytes.{atM, atN, atAreas, header, areasOf, sizeIn, writtenAreas, le16At, startB, mapLength, longest}
+use Rattle.answers.specs.Checks.{unless}
 use Rattle.format.specs.Open.{SizeFits, sizeFits, areasFit, lengthFits, openRefusal}
 use Rattle.format.proofs.Passes.{Passes, decides-size, opens-passes}
 

@@ -10,6 +10,7 @@ use mathlib.Core.Path.{_≡_, sym, ap, _∙_}
 use mathlib.Core.List.{List}
 use Prim.Native.Nat.{ℕ, _+_, _*_, _<_, _≤_}
 use native.Mathlib.Omega.{arith}
+use Rattle.answers.specs.Answer.{Kind}
 use Rattle.words.specs.declared.family.Family.{Family}
 use Rattle.words.specs.declared.family.Family.the-variants.{Round as round, Square as square}
 use Rattle.words.specs.Brackets.{number}
@@ -19,7 +20,6 @@ use Rattle.words.proofs.Numbers.{openings, number-positive, number-range}
 use Rattle.words.proofs.Openings.{thin-openings}
 use Rattle.bits.specs.Strings.{isBit, rank, brackets}
 use Rattle.bits.proofs.Laws.{bracket-cases, rank-openings}
-use Rattle.drawing.specs.Drawing.{Kind}
 use Rattle.format.specs.Bytes.{sizeIn, bitsA, bitsB, partA, partB, familyBit, wordIn}
 use Rattle.format.specs.Open.{openRefusal}
 use Rattle.format.specs.Calls.{familyOfKind, cellsIn}

@@ -16,11 +16,12 @@ use Prim.Native.Nat.{ℕ, _+_, _-_, _*_, _/_, _%_, _<_, _≤_}
 use native.Mathlib.Omega.{arith}
 use lib.ListN.{length, take, drop, length-append, length-take, length-drop, take-append-drop}
 use lib.Seq.{take-at, drop-at, drop-drop, take-all, getD-take, getD-drop}
+use Rattle.answers.specs.Answer.{Size}
 use Rattle.words.specs.declared.family.Family.{Family}
 use Rattle.words.specs.declared.family.Family.the-variants.{Round as round, Square as square}
 use Rattle.words.specs.Word.{Word}
 use Rattle.bits.specs.Strings.{bytesFor}
-use Rattle.format.specs.Bytes.{header, le16, le16At, Size, areasOf, headerOf, sizeIn, writtenAreas, bitsA, bitsB, startB, mapLength, partA, partB, stringA, stringB, bytesOf, mapBytes}
+use Rattle.format.specs.Bytes.{header, le16, le16At, areasOf, headerOf, sizeIn, writtenAreas, bitsA, bitsB, startB, mapLength, partA, partB, stringA, stringB, bytesOf, mapBytes}
 use Rattle.format.proofs.Bits.{EachBelow, each-below, bytes-of-length}
 
 -- a part has the bytes that its bits take, from its offset on

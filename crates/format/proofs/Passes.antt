@@ -4,7 +4,9 @@
 -- Passes s       == what the six checks say of the bytes s, in one record
 -- open-decided   == the six tests decide the checks
 -- opens-passes, passes-opens == no refusal applies exactly if they hold
+-- opened s a     == a call's own answer a, after opening's checks
 -- opened-opens, opened-declines == a call on map bytes gives its own answer, or opening's refusal
+-- after-opens, after-declines == the same of a call with no checks of its own
 -- open-refusals  == opening gives the number of the first check that fails, or m and n
 -- Assumes nothing.
 use mathlib.Core.Path.{_≡_, refl}
@@ -16,10 +18,10 @@ use native.Mathlib.Omega.{arith}
 use lib.ListN.{length}
 use Rattle.count.specs.Below.{Decides}
 use Rattle.count.proofs.Decides.{decides-eq, decides-le, decides-both, decides-as}
-use Rattle.refusals.specs.Checks.{Hold, InOrder, Decided}
-use Rattle.refusals.specs.Answer.{Answer, refused}
-use Rattle.refusals.proofs.Steps.{checked-none, checked-some}
-use Rattle.refusals.proofs.Order.{each-hold, decided-append, none-refuses, in-order}
+use Rattle.answers.specs.Checks.{checked, after, Hold, InOrder, Decided}
+use Rattle.answers.specs.Answer.{Answer, answer, refused}
+use Rattle.answers.proofs.Steps.{checked-none, checked-some}
+use Rattle.answers.proofs.Order.{each-hold, decided-append, none-refuses, in-order}
 use Rattle.words.specs.Brackets.{Balanced, balanced}
 use Rattle.words.specs.declared.family.Family.{Family}
 use Rattle.words.specs.declared.family.Family.the-variants.{Round as round, Square as square}
@@ -29,7 +31,7 @@ use Rattle.bits.proofs.Laws.{unused-zero-from, unused-zero-has}
 use Rattle.drawing.specs.Drawing.{mostBorders}
 use Rattle.format.specs.Bytes.{header, areasOf, sizeIn, writtenAreas, bitsA, bitsB, mapLength, partA, partB}
 use Rattle.format.specs.Open.{HeaderFits, headerFits, SizeFits, sizeFits, AreasFit, areasFit, LengthFits, lengthFits, UnusedZero, UnusedFits, unusedFits, OnesFit, onesFit}
-use Rattle.format.specs.Open.{BracketsFit, bracketsFit, openChecks, openRefusal, opened, openOf}
+use Rattle.format.specs.Open.{BracketsFit, bracketsFit, openChecks, openRefusal, openOf}
 
 pub record Passes (s : List ℕ) : Type 0 where
   pub header-fits : header ≤ length s
@@ -144,6 +146,11 @@ module _ (s : List ℕ) where
   open-refusals = in-order (openChecks s) (sizeIn s) open-decided
 
 -- ---- a call on map bytes, by opening's number
+-- 01: "Every call on map bytes runs 8 to 12, then its own", and with them 20
+unfoldable pub opened : {A : Type 0} → List ℕ → Answer A → Answer A
+unfolding sizeFits areasFit lengthFits unusedFits onesFit bracketsFit
+opened s a = checked (openChecks s) a
+
 module _ {A : Type 0} (s : List ℕ) (a : Answer A) where
   pub opened-opens : openRefusal s ≡ 0 → opened s a ≡ a
   unfolding opened openRefusal
@@ -153,7 +160,11 @@ module _ {A : Type 0} (s : List ℕ) (a : Answer A) where
   unfolding opened openRefusal
   opened-declines m = checked-some (openChecks s) a refl m
 
--- One call that runs opening's checks on two maps; numbers stand twice in the list
-pub two-maps : (s t : List ℕ) → InOrder (openChecks s ++ openChecks t) (sizeIn t) (opened s (openOf t))
-unfolding openOf opened
-two-maps s t = in-order (openChecks s ++ openChecks t) (sizeIn t) (decided-append (openChecks s) (openChecks t) (open-decided s) (λ _. open-decided t))
+module _ {A : Type 0} (s : List ℕ) (x : A) where
+  pub after-opens : openRefusal s ≡ 0 → after (openChecks s) x ≡ answer x
+  unfolding opened
+  after-opens o = opened-opens s (answer x) o
+
+  pub after-declines : (openRefusal s ≡ 0 → ⊥) → after (openChecks s) x ≡ refused (openRefusal s)
+  unfolding opened
+  after-declines m = opened-declines s (answer x) m

@@ -14,9 +14,9 @@ use lib.ListN.{take, drop}
 use Rattle.count.specs.Below.{Decides}
 use Rattle.count.proofs.Logic.{true-or-false}
 use Rattle.count.proofs.Decides.{decides-le, decides-both, decides-not, decides-refutes, decides-as}
-use Rattle.refusals.specs.Answer.{refusedWith}
-use Rattle.refusals.specs.Checks.{Check, Hold, InOrder, Decided}
-use Rattle.refusals.proofs.Order.{Each, each-hold, none-refuses, in-order, once, refused-at}
+use Rattle.answers.specs.Answer.{refusedWith}
+use Rattle.answers.specs.Checks.{Check, Hold, InOrder, Decided}
+use Rattle.answers.proofs.Order.{Each, each-hold, none-refuses, in-order, once, refused-at}
 use Rattle.drawing.specs.Drawing.{Drawing, borders}
 use Rattle.drawing.specs.Checks.{LengthsFit, lengthsFit, InRange, inRange, Distinct, distinct, joined, fewMarks, Flat, crosses, firstCrossing, FirstCrossing}
 use Rattle.drawing.specs.Checks.{PassesSix, PassesSeven}

@@ -13,24 +13,25 @@ use mathlib.Core.List.{List}
 use Prim.Native.Nat.{ℕ, zero, suc, pred, _+_, _<_, _≤_}
 use native.Mathlib.Omega.{arith}
 use lib.Dec.{eqb, ltb, leb}
+use lib.ListN.{drop}
 use borrow.Author.Tests.{leb-true}
 use Rattle.count.specs.Below.{pick}
 use Rattle.count.proofs.Logic.{both-right}
 use Rattle.count.proofs.Search.{find-le}
 use Rattle.count.proofs.Counts.{count-le}
-use Rattle.refusals.proofs.Steps.{by-checks}
+use Rattle.answers.proofs.Steps.{none-append, by-checks}
+use Rattle.answers.specs.Answer.{Answer, answer, refused, valueOf, Kind, noSuch}
 use Rattle.words.specs.Brackets.{Bracket, opens, closes, neither, isOpens, isCloses, isFirst, isLast, inner, closer, mate, next, previous, step, back, number, first, size}
 use Rattle.words.specs.declared.family.Family.the-variants.{Round as round, Square as square}
 use Rattle.words.specs.Word.{Word, seen, crossing}
 use Rattle.words.proofs.Stack.{inner-le}
-use Rattle.drawing.specs.Drawing.{Kind}
-use Rattle.drawing.specs.Session.{Answer, answer, refused, valueOf, Call}
-use Rattle.drawing.specs.Book.{noSuch}
+use Rattle.drawing.specs.Session.{Call}
 use Rattle.drawing.proofs.Neighbours.{neighbours-le}
 use Rattle.format.specs.Bytes.{sizeIn, wordIn}
-use Rattle.format.specs.Open.{openChecks, openRefusal, opened}
-use Rattle.format.specs.Calls.{familyOfKind, moveIn, atPlace, mapAnswer, crossOf, turnOf, turnBackOf, alongOf, pointOf, areaOf, cellsIn, isNumber, firstIn, firstOf, placesIn, sizeOf, neighboursIn, neighboursOf, joinIn, joiningOf}
-use Rattle.format.proofs.Passes.{opens-passes}
+use Rattle.format.specs.Open.{openChecks, openRefusal}
+use Rattle.format.specs.Calls.{familyOfKind, moveIn, mapAnswer, crossOf, turnOf, turnBackOf, alongOf, pointOf, areaOf, cellsIn, isNumber, joinChecks, firstIn, firstOf, placesIn, sizeOf, neighboursIn, neighboursOf, joinIn, joiningOf}
+use Rattle.format.proofs.Passes.{opens-passes, opened}
+use Rattle.format.proofs.Places.{atPlace}
 
 -- ---- brackets of a word of n letters; N is any bound of n and of the position
 pick-most : (t : Bool) (x y N : ℕ) → x ≤ N → y ≤ N → pick t x y ≤ N
@@ -131,7 +132,7 @@ module _ (s : List ℕ) where
   word-most e = omega (arith, opens-passes s e .m-most)
 
   pub move-small : (c : Call) (i : ℕ) → valueOf (mapAnswer s c i) < 65536
-  unfolding mapAnswer atPlace
+  unfolding mapAnswer opened
   move-small c i =
       own-small s (ltb 0 i && leb i (wordIn s .size)) (moveIn (wordIn s) c (pred i)) 13
       (λ e t.
@@ -140,37 +141,38 @@ module _ (s : List ℕ) where
       omega (arith, move-most (wordIn s) 4096 h c (pred i) (omega arith)))
 
   pub first-small : (c : Kind) (k : ℕ) → valueOf (firstOf s c k) < 65536
-  unfolding firstOf
+  unfolding firstOf opened
   first-small c k =
       own-small s (isNumber (sizeIn s) c k) (firstIn (wordIn s) c k) (noSuch c)
       (λ e t. omega (arith, first-most (wordIn s) 4096 (word-most e) c k))
 
   pub size-small : (c : Kind) (k : ℕ) → valueOf (sizeOf s c k) < 65536
-  unfolding sizeOf
+  unfolding sizeOf opened
   size-small c k =
       own-small s (isNumber (sizeIn s) c k) (placesIn (wordIn s) c k) (noSuch c)
       (λ e t. omega (arith, size-most (wordIn s) 4096 (word-most e) c k))
 
   pub neighbours-small : (k : ℕ) → valueOf (neighboursOf s k) < 65536
-  unfolding neighboursOf neighboursIn
+  unfolding neighboursOf neighboursIn opened
   neighbours-small k =
       let v : ℕ = cellsIn (sizeIn s) Kind.area in
       own-small s (isNumber (sizeIn s) Kind.area k) (neighboursIn (wordIn s) v k) 15
       (λ e t. omega (arith, opens-passes s e .m-most, neighbours-le (number (seen square (wordIn s))) (crossing (wordIn s)) (wordIn s .size) v k))
 
   pub joining-small : (u v : ℕ) → valueOf (joiningOf s u v) < 65536
-  unfolding joiningOf
+  unfolding joiningOf openRefusal valueOf
   joining-small u v =
-      own-small s (isNumber (sizeIn s) Kind.point u && isNumber (sizeIn s) Kind.point v)
-      (joinIn (wordIn s) v (placesIn (wordIn s) Kind.point u) (first (seen round (wordIn s)) (wordIn s .size) u)) 14
-      (λ e t.
-      let h : wordIn s .size ≤ 4096 = word-most e in
+      by-checks (λ a. valueOf a < 65536) (joinChecks s u v) (answer (joinIn (wordIn s) v (placesIn (wordIn s) Kind.point u) (first (seen round (wordIn s)) (wordIn s .size) u)))
+      refl
+      (λ o.
+      let h : wordIn s .size ≤ 4096 = word-most (none-append (openChecks s) (drop 6 (joinChecks s u v)) refl o .0) in
       omega (
         arith,
         size-most (wordIn s) 4096 h Kind.point u,
         join-most (wordIn s) v (placesIn (wordIn s) Kind.point u) (first (seen round (wordIn s)) (wordIn s .size) u) 4096 h
             (first-position-most (wordIn s) 4096 h (seen round (wordIn s)) u),
       ))
+      (λ j xs l. omega arith)
 
 -- ---- an answer a of a call
 module _ (s : List ℕ) (a : Answer ℕ) where

@@ -15,11 +15,10 @@ use lib.ListN.{length, getD, take, drop}
 use lib.Dec.{eqb, ltb, leb}
 use Rattle.count.specs.Below.{all}
 use Rattle.count.proofs.Decides.{decides-le}
-use Rattle.refusals.specs.Checks.{Check, unless, after, Hold, InOrder, Decided}
-use Rattle.refusals.proofs.Order.{each-hold, none-refuses, in-order, once, number-at}
-use Rattle.drawing.specs.Drawing.{mostEnds, Drawing, borders, ends, turn, everyBorder}
+use Rattle.answers.specs.Checks.{Check, unless, after, Hold, InOrder, Decided}
+use Rattle.answers.proofs.Order.{each-hold, none-refuses, in-order, once, number-at}
+use Rattle.drawing.specs.Drawing.{mostEnds, Drawing, borders, ends, turn, everyBorder, lent}
 use Rattle.drawing.specs.Checks.{lengthsFit, entriesFit, distinct, Connected, connected, PassesFour}
-use Rattle.drawing.specs.Laid.{lent}
 use Rattle.drawing.proofs.Checks.{lengths-decides, entries-decides, distinct-decides}
 use Rattle.drawing.proofs.Labels.{connected-decides, joins-unread}
 use Rattle.drawing.proofs.Ends.{entries-permute}

@@ -14,7 +14,7 @@ use Prim.Native.Nat.{ℕ, _+_}
 use lib.ListN.{length, take, drop}
 use lib.Dec.{eqb}
 use Rattle.format.specs.Bytes.{EachBelow, atAreas, le16, areasOf, sizeIn, mapLength}
-use Rattle.refusals.specs.Checks.{unless}
+use Rattle.answers.specs.Checks.{unless}
 use Rattle.format.specs.Open.{headerFits, areasFit, unusedFits, onesFit, bracketsFit, openRefusal, Opens}
 
 -- 8: "under 4 bytes, m over 2,048, or n not 1 to m+1": the header ended where the count begins now

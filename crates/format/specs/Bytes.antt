@@ -2,7 +2,6 @@
 --
 -- EachBelow k s      == every entry of s is below k: 2 for a list of bits, 256 for a byte string
 -- atM, atN, atAreas, header == the offsets of the header's fields, and its length
--- Size               == m and n
 -- areasOf z          == m - n + 2: how many areas there are with m and n of z
 -- headerOf z         == the header with m and n of z
 -- sizeIn s           == m and n as the header of s has them
@@ -22,6 +21,7 @@ use Prim.Native.Nat.{ℕ, _+_, _-_, _*_, _/_, _%_, _<_}
 use lib.ListN.{length, getD, take, drop}
 use lib.Dec.{eqb}
 use Rattle.count.specs.Below.{pick, table, gather}
+use Rattle.answers.specs.Answer.{Size}
 use Rattle.words.specs.declared.family.Family.{Family}
 use Rattle.words.specs.declared.family.Family.the-variants.{Round as round, Square as square}
 use Rattle.words.specs.Word.{sameFamily, Letter, Word}
@@ -48,10 +48,6 @@ le16 x = x % 256 ∷ x / 256 % 256 ∷ []
 
 unfoldable pub le16At : List ℕ → ℕ → ℕ
 le16At s i = getD s i 0 + 256 * getD s (i + 1) 0
-
-pub record Size : Type 0 where
-  pub m : ℕ
-  pub n : ℕ
 
 -- 01: "There are m-n+2 areas."
 abbrev pub areasOf : Size → ℕ

@@ -2,13 +2,15 @@
 --
 -- moveIn w c p        == the answer of the call c at position p of the word w
 -- placeChecks s i     == the checks of a call about the place i: opening's, then 13
--- cellChecks s c k    == of a call about the point or area k: opening's, then 14 or 15
--- mapAnswer s c i     == the call c at place i of the map s: opening's checks, 13, then the answer
+-- mapAnswer s c i     == the call c at place i of the map s
 -- crossOf, turnOf, turnBackOf, alongOf, pointOf, areaOf == the six, by name
 -- mapSession s i cs   == a session on the map s
--- firstOf, sizeOf     == first place, and degree or sides, of a point or an area of the map s: opening's checks, 14 or 15
+-- numberCheck z c k   == 14 or 15: whether there is a point or area k on a map of size z
+-- cellChecks s c k    == the checks of a call about the point or area k: opening's, then 14 or 15
+-- firstOf, sizeOf     == first place, and degree or sides, of a point or an area of the map s
 -- neighboursIn, neighboursOf == the neighbour count of an area of a word, of the map s
 -- landingsIn w k      == the areas across the sides of area k of a word, one for each side
+-- joinChecks s u v    == the checks of a call about two points: opening's, then 14 of each
 -- joiningOf s u v     == the joining border of points u and v
 -- Assumes nothing.
 use mathlib.Core.Bool.{Bool, true, false, _&&_}
@@ -16,17 +18,16 @@ use mathlib.Core.List.{List, [], _∷_, _++_}
 use Prim.Native.Nat.{ℕ, zero, suc, pred, _+_, _-_, _≤_}
 use lib.Dec.{eqb, ltb, leb}
 use Rattle.count.specs.Below.{pick}
-use Rattle.refusals.specs.Checks.{Check, check}
+use Rattle.answers.specs.Checks.{Check, check, after}
+use Rattle.answers.specs.Answer.{Answer, answer, refused, Size, Kind, noSuch}
 use Rattle.words.specs.Brackets.{step, back, number, isFirst, isLast, first, size}
 use Rattle.words.specs.declared.family.Family.{Family}
 use Rattle.words.specs.declared.family.Family.the-variants.{Round as round, Square as square}
 use Rattle.words.specs.Word.{Word, seen, crossing}
-use Rattle.drawing.specs.Drawing.{Kind}
-use Rattle.drawing.specs.Session.{Answer, answer, refused, Call, Outcome, session}
+use Rattle.drawing.specs.Session.{Call, Outcome, session}
 use Rattle.drawing.specs.Neighbours.{neighbours, landings}
-use Rattle.drawing.specs.Book.{noSuch}
-use Rattle.format.specs.Bytes.{Size, areasOf, sizeIn, bitsA, wordIn}
-use Rattle.format.specs.Open.{openChecks, opened}
+use Rattle.format.specs.Bytes.{areasOf, sizeIn, bitsA, wordIn}
+use Rattle.format.specs.Open.{openChecks, openOf}
 
 -- a point is what round brackets enclose, an area is what square brackets enclose
 abbrev pub familyOfKind : Kind → Family
@@ -49,13 +50,9 @@ abbrev pub placeChecks : List ℕ → ℕ → List Check
 placeChecks s i =
     openChecks s ++ (check 13 (ltb 0 i && leb i (bitsA (sizeIn s))) ((1 ≤ i) × (i ≤ bitsA (sizeIn s))) ∷ [])
 
-unfoldable pub atPlace : Word → Call → ℕ → Answer ℕ
-unfolding moveIn
-atPlace w c i = pick (ltb 0 i && leb i (w .size)) (answer (moveIn w c (pred i))) (refused 13)
-
 unfoldable pub mapAnswer : List ℕ → Call → ℕ → Answer ℕ
-unfolding opened atPlace wordIn
-mapAnswer s c i = opened s (atPlace (wordIn s) c i)
+unfolding openOf moveIn wordIn
+mapAnswer s c i = after (placeChecks s i) (moveIn (wordIn s) c (pred i))
 
 unfoldable pub crossOf : List ℕ → ℕ → Answer ℕ
 unfolding mapAnswer
@@ -94,8 +91,11 @@ cellsIn z Kind.area = areasOf z
 abbrev pub isNumber : Size → Kind → ℕ → Bool
 isNumber z c k = ltb 0 k && leb k (cellsIn z c)
 
+abbrev pub numberCheck : Size → Kind → ℕ → Check
+numberCheck z c k = check (noSuch c) (isNumber z c k) ((1 ≤ k) × (k ≤ cellsIn z c))
+
 abbrev pub cellChecks : List ℕ → Kind → ℕ → List Check
-cellChecks s c k = openChecks s ++ (check (noSuch c) (isNumber (sizeIn s) c k) ((1 ≤ k) × (k ≤ cellsIn (sizeIn s) c)) ∷ [])
+cellChecks s c k = openChecks s ++ (numberCheck (sizeIn s) c k ∷ [])
 
 -- 01, Moves: "First place of a point: 1 for point 1, else the place after the ( that reaches it. First place of an area: its
 -- lowest. Both are 0 if m = 0." The lowest place of a point is the place after the ( that reaches it.
@@ -104,8 +104,8 @@ unfolding first seen
 firstIn w c k = pick (eqb (w .size) 0) 0 (suc (first (seen (familyOfKind c) w) (w .size) k))
 
 unfoldable pub firstOf : List ℕ → Kind → ℕ → Answer ℕ
-unfolding opened sizeIn firstIn wordIn
-firstOf s c k = opened s (pick (isNumber (sizeIn s) c k) (answer (firstIn (wordIn s) c k)) (refused (noSuch c)))
+unfolding openOf firstIn wordIn
+firstOf s c k = after (cellChecks s c k) (firstIn (wordIn s) c k)
 
 -- 01, Moves: "Degree of a point and sides of an area: how many places have that number."
 unfoldable pub placesIn : Word → Kind → ℕ → ℕ
@@ -113,8 +113,8 @@ unfolding size seen
 placesIn w c k = size (seen (familyOfKind c) w) (w .size) k
 
 unfoldable pub sizeOf : List ℕ → Kind → ℕ → Answer ℕ
-unfolding opened sizeIn placesIn wordIn
-sizeOf s c k = opened s (pick (isNumber (sizeIn s) c k) (answer (placesIn (wordIn s) c k)) (refused (noSuch c)))
+unfolding openOf placesIn wordIn
+sizeOf s c k = after (cellChecks s c k) (placesIn (wordIn s) c k)
 
 -- 02, 3/14: "The area across a side is the area of its crossing. The neighbour count becomes the number of other areas across at
 -- least one side." There are v areas.
@@ -123,10 +123,8 @@ unfolding neighbours number seen crossing
 neighboursIn w v k = neighbours (number (seen square w)) (crossing w) (w .size) v k
 
 unfoldable pub neighboursOf : List ℕ → ℕ → Answer ℕ
-unfolding opened sizeIn neighboursIn wordIn
-neighboursOf s k =
-    opened s
-    (pick (isNumber (sizeIn s) Kind.area k) (answer (neighboursIn (wordIn s) (cellsIn (sizeIn s) Kind.area) k)) (refused 15))
+unfolding openOf neighboursIn wordIn
+neighboursOf s k = after (cellChecks s Kind.area k) (neighboursIn (wordIn s) (cellsIn (sizeIn s) Kind.area) k)
 
 -- 02, 4/14: "one for each side, in walk order from the area's first place"
 unfoldable pub landingsIn : Word → ℕ → List ℕ
@@ -143,10 +141,11 @@ joinIn w v (suc k) p =
 
 -- 01, Moves: "the search stops at the first place about u, in turning order, whose crossing lands at v, and answers that
 -- place. It answers 0 if none does."
+abbrev pub joinChecks : List ℕ → ℕ → ℕ → List Check
+joinChecks s u v = cellChecks s Kind.point u ++ (numberCheck (sizeIn s) Kind.point v ∷ [])
+
 unfoldable pub joiningOf : List ℕ → ℕ → ℕ → Answer ℕ
-unfolding opened sizeIn joinIn wordIn placesIn first seen
+unfolding openOf joinIn wordIn placesIn first seen
 joiningOf s u v =
-    opened s
-    (pick (isNumber (sizeIn s) Kind.point u && isNumber (sizeIn s) Kind.point v)
-    (answer (joinIn (wordIn s) v (placesIn (wordIn s) Kind.point u) (first (seen round (wordIn s)) (wordIn s .size) u)))
-    (refused 14))
+    after (joinChecks s u v)
+    (joinIn (wordIn s) v (placesIn (wordIn s) Kind.point u) (first (seen round (wordIn s)) (wordIn s .size) u))

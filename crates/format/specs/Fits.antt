@@ -5,12 +5,12 @@
 use mathlib.Core.Path.{_≡_}
 use Prim.Native.Nat.{_+_, _-_, _*_, _≤_}
 use Rattle.count.specs.Below.{count}
+use Rattle.answers.specs.Answer.{Size}
 use Rattle.words.specs.Brackets.{Balanced}
 use Rattle.words.specs.declared.family.Family.{Family}
 use Rattle.words.specs.declared.family.Family.the-variants.{Round as round}
 use Rattle.words.specs.Word.{sameFamily, Word, seen}
 use Rattle.drawing.specs.Drawing.{mostBorders}
-use Rattle.format.specs.Bytes.{Size}
 
 pub record Fits (z : Size) (w : Word) : Type 0 where
   pub m-most : z .m ≤ mostBorders

@@ -3,6 +3,8 @@ pub mod Bytes
 pub mod Fits
 pub mod Open
 pub mod Calls
+pub mod Sessions
 pub mod Pack
+pub mod Packs
 pub mod Before
 pub mod Suggest

@@ -13,7 +13,6 @@
 -- openRefusal s    == the number of the first of them that applies; 0 where none does
 -- Opens s          == s is a byte string, and none applies
 -- openOf s         == opening: m and n, or the refusal
--- opened s a       == a call's own answer a, after opening's checks
 -- Assumes nothing.
 use mathlib.Core.Path.{_≡_}
 use mathlib.Core.Bool.{Bool, true, false, _&&_}
@@ -21,14 +20,14 @@ use mathlib.Core.List.{List, [], _∷_}
 use Prim.Native.Nat.{ℕ, zero, suc, _+_, _-_, _*_, _≤_, _<_}
 use lib.ListN.{length}
 use lib.Dec.{eqb, leb}
-use Rattle.refusals.specs.Answer.{Answer, answer}
-use Rattle.refusals.specs.Checks.{Check, check, refusalIn, checked}
+use Rattle.answers.specs.Answer.{Answer, answer, Size}
+use Rattle.answers.specs.Checks.{Check, check, refusalIn, after}
 use Rattle.words.specs.Brackets.{Balanced, balanced}
 use Rattle.words.specs.declared.family.Family.{Family}
 use Rattle.words.specs.declared.family.Family.the-variants.{Round as round, Square as square}
 use Rattle.bits.specs.Strings.{bit, rank, brackets, unusedZero}
 use Rattle.drawing.specs.Drawing.{mostBorders}
-use Rattle.format.specs.Bytes.{EachBelow, Size, header, areasOf, sizeIn, writtenAreas, bitsA, bitsB, mapLength, partA, partB}
+use Rattle.format.specs.Bytes.{EachBelow, header, areasOf, sizeIn, writtenAreas, bitsA, bitsB, mapLength, partA, partB}
 
 -- 8: "under 4 bytes, m over 2,048, or n not 1 to m+1"; 02, 6/14: "refusal 8 wants 6 bytes"
 pub record HeaderFits (h : ℕ) (s : List ℕ) : Type 0 where
@@ -115,12 +114,7 @@ pub record Opens (s : List ℕ) : Type 0 where
   pub bytes : EachBelow 256 s
   pub passes : openRefusal s ≡ 0
 
--- 01: "Every call on map bytes runs 8 to 12, then its own", and with them 20
-unfoldable pub opened : {A : Type 0} → List ℕ → Answer A → Answer A
-unfolding sizeFits areasFit lengthFits unusedFits onesFit bracketsFit
-opened s a = checked (openChecks s) a
-
 -- 01: "Opening gives m and n"
 unfoldable pub openOf : List ℕ → Answer Size
-unfolding opened sizeIn
-openOf s = opened s (answer (sizeIn s))
+unfolding sizeFits areasFit lengthFits unusedFits onesFit bracketsFit sizeIn
+openOf s = after (openChecks s) (sizeIn s)

@@ -12,24 +12,25 @@
 -- endIn w p        == the end that unpacking puts at position p
 -- positionIn w h   == the position at which end h stands
 -- drawingOf w      == the drawing of a word: borders numbered by their first places, the first place the even end, start 0
+-- unpackChecks s t k == unpacking's checks: opening's, then 16, with t turning entries and k marks lent
 -- unpackOf s t k   == unpacking the map s into lists of t turning entries and k marks
 -- Assumes nothing.
 use mathlib.Core.Bool.{Bool, true, false, not, _&&_}
-use mathlib.Core.List.{List, [], _∷_}
+use mathlib.Core.List.{List, [], _∷_, _++_}
 use Prim.Native.Nat.{ℕ, zero, suc, _+_, _*_, _/_, _≤_}
 use lib.Dec.{eqb, ltb, leb}
 use Rattle.count.specs.Below.{pick, count, find, table}
-use Rattle.refusals.specs.Answer.{Answer, answer, refused}
-use Rattle.refusals.specs.Checks.{Check, check, refusalIn, after}
+use Rattle.answers.specs.Answer.{Answer, answer, refused, Size, Kind}
+use Rattle.answers.specs.Checks.{Check, check, refusalIn, after}
+use Rattle.answers.specs.Lent.{cleared}
 use Rattle.words.specs.Brackets.{step}
 use Rattle.words.specs.declared.family.Family.{Family}
 use Rattle.words.specs.declared.family.Family.the-variants.{Round as round, Square as square}
 use Rattle.words.specs.Word.{Letter, Word, seen, crossing}
-use Rattle.bits.specs.Writes.{cleared}
-use Rattle.drawing.specs.Drawing.{Drawing, Kind, borders, ends, border, isMarked, cells, endAt, isSecond}
+use Rattle.drawing.specs.Drawing.{Drawing, borders, ends, border, isMarked, cells, endAt, isSecond}
 use Rattle.drawing.specs.Checks.{LengthsFit, lengthsFit, InRange, inRange, Distinct, distinct, Joined, joined, FewMarks, fewMarks, Flat, crosses, firstCrossing}
-use Rattle.format.specs.Bytes.{Size, sizeIn, longest, mapBytes, wordIn, familyBit}
-use Rattle.format.specs.Open.{opened}
+use Rattle.format.specs.Bytes.{sizeIn, longest, mapBytes, wordIn, familyBit}
+use Rattle.format.specs.Open.{openChecks, openOf}
 
 unfoldable pub wordOf : Drawing → Word
 unfolding ends isMarked border endAt isSecond
@@ -103,7 +104,11 @@ drawingOf w =
     }
 
 -- 16: "unpack: lists under 2m or m entries"
+abbrev pub unpackChecks : List ℕ → ℕ → ℕ → List Check
+unpackChecks s turnings marks =
+    openChecks s
+    ++ (check 16 (leb (2 * sizeIn s .m) turnings && leb (sizeIn s .m) marks) ((2 * sizeIn s .m ≤ turnings) × (sizeIn s .m ≤ marks)) ∷ [])
+
 unfoldable pub unpackOf : List ℕ → ℕ → ℕ → Answer Drawing
-unfolding opened sizeIn drawingOf wordIn
-unpackOf s turnings marks =
-    opened s (pick (leb (2 * sizeIn s .m) turnings && leb (sizeIn s .m) marks) (answer (drawingOf (wordIn s))) (refused 16))
+unfolding openOf drawingOf wordIn
+unpackOf s turnings marks = after (unpackChecks s turnings marks) (drawingOf (wordIn s))

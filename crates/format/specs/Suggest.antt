@@ -11,7 +11,7 @@ use mathlib.Core.List.{List, [], _∷_}
 use Prim.Native.Nat.{ℕ, _*_, _≤_}
 use lib.Dec.{leb}
 use lib.ListN.{length}
-use Rattle.refusals.specs.Checks.{Check, check, refusalIn}
+use Rattle.answers.specs.Checks.{Check, check, refusalIn}
 use Rattle.drawing.specs.Drawing.{Drawing, borders}
 use Rattle.drawing.specs.Checks.{LengthsFit, lengthsFit, EntriesFit, entriesFit, Distinct, distinct, Connected, connected}
 use Rattle.drawing.specs.Tree.{SuggestedTree}

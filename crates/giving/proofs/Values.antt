@@ -8,21 +8,19 @@
 use mathlib.Core.Path.{_≡_}
 use Prim.Native.Nat.{ℕ, _<_}
 use borrow.Author.Needs.{needs}
-use Rattle.drawing.specs.Session.{valueOf}
-use Rattle.opening.specs.declared.answers.Opened.{Opened}
-use Rattle.opening.specs.Answers.{openedMeans}
+use Rattle.answers.specs.Answer.{valueOf, told, Size}
+use Rattle.answers.specs.declared.cases.Opened.{Opened}
+use Rattle.answers.specs.Means.{openedMeans, unpackedMeans}
+use Rattle.answers.specs.declared.cases.Packed.{Packed}
+use Rattle.answers.specs.declared.cases.Unpacked.{Unpacked}
 use Rattle.opening.proofs.Values.{place-value, point-value, area-value, count-value}
-use Rattle.packing.specs.declared.answers.Packed.{Packed}
-use Rattle.unpacking.specs.declared.answers.Unpacked.{Unpacked}
-use Rattle.unpacking.specs.Answers.{unpackedMeans}
-use Rattle.giving.specs.Cells.{bordersGiven, pointsGiven}
 use Rattle.giving.specs.Desk.{Small}
 
-pub borders-value : (a : Opened) (m n : ℕ) → a ≡ Opened.Size m n → valueOf (bordersGiven (openedMeans a)) < 65536 → m < 65536
+pub borders-value : (a : Opened) (m n : ℕ) → a ≡ Opened.Size m n → valueOf (told (λ (z : Size). z .m) (openedMeans a)) < 65536 → m < 65536
 unfolding valueOf
 borders-value a m n e h = rw e at h
 
-pub points-value : (a : Opened) (m n : ℕ) → a ≡ Opened.Size m n → valueOf (pointsGiven (openedMeans a)) < 65536 → n < 65536
+pub points-value : (a : Opened) (m n : ℕ) → a ≡ Opened.Size m n → valueOf (told (λ (z : Size). z .n) (openedMeans a)) < 65536 → n < 65536
 unfolding valueOf
 points-value a m n e h = rw e at h
 

@@ -9,12 +9,12 @@ use mathlib.Core.Path.{_≡_}
 use mathlib.Core.List.{List}
 use Prim.Native.Nat.{ℕ, _+_, _*_, _/_, _%_, _<_}
 use lib.ListN.{length, getD}
+use Rattle.answers.specs.Answer.{numberOf, carriedBy, told}
+use Rattle.answers.specs.declared.cases.Packed.{Packed}
+use Rattle.answers.specs.Lent.{leaves, itself}
 use Rattle.drawing.specs.Drawing.{Drawing}
-use Rattle.drawing.specs.Session.{numberOf, carriedBy}
 use Rattle.format.specs.Pack.{packOf}
-use Rattle.packing.specs.declared.answers.Packed.{Packed}
-use Rattle.packing.specs.Answers.{PackLeaves, lengthOf}
-use Rattle.giving.specs.Cells.{cellAfter}
+use Rattle.format.specs.Packs.{PackLeaves}
 
 abbrev pub smallerIn : ℕ → ℕ
 smallerIn r = r / 256 % 4096
@@ -28,7 +28,7 @@ pub record PackReturns (D : Drawing) (work work' out out' : List ℕ) (l l' r : 
   pub low : r % 256 ≡ numberOf (packOf D (length work) (length out))
   pub smaller : smallerIn r ≡ getD (carriedBy (packOf D (length work) (length out))) 0 0
   pub larger : largerIn r ≡ getD (carriedBy (packOf D (length work) (length out))) 1 0
-  pub cell : l' ≡ cellAfter (lengthOf (packOf D (length work) (length out))) l
+  pub cell : l' ≡ leaves itself (told length (packOf D (length work) (length out))) l
   pub leaves : PackLeaves D work work' out out'
 
 abbrev pub returned : Packed → ℕ

@@ -1,3 +1,2 @@
--- Statuses and cells for a C host: definitions.
-pub mod Cells
+-- What packing returns to a C host: definitions of the code's own.
 pub mod Desk

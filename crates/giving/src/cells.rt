@@ -1,25 +1,22 @@
 // From an answer to a status and the cells that hold it.
-use opening::AreaAnswer;
-use opening::Count;
-use opening::Opened;
-use opening::PlaceAnswer;
-use opening::PointAnswer;
-use rating::FactorAnswer;
-use running::Ran;
-use unpacking::Unpacked;
+use answers::AreaAnswer;
+use answers::Count;
+use answers::Opened;
+use answers::PlaceAnswer;
+use answers::PointAnswer;
+use answers::FactorAnswer;
+use answers::Ran;
+use answers::Unpacked;
 ghost use mathlib.Core.Path.{_≡_};
 ghost use Prim.Native.Nat.{_<_};
-ghost use Rattle.drawing.specs.Session.{numberOf, valueOf};
-ghost use Rattle.opening.specs.Answers.{openedMeans, placeMeans, pointMeans, areaMeans, countMeans};
-ghost use Rattle.rating.specs.Answers.{factorMeans};
-ghost use Rattle.running.specs.Runs.{ranMeans};
-ghost use Rattle.unpacking.specs.Answers.{unpackedMeans};
-ghost use Rattle.giving.specs.Cells.{cellAfter, bordersGiven, pointsGiven};
+ghost use Rattle.answers.specs.Answer.{numberOf, valueOf, told, Size};
+ghost use Rattle.answers.specs.Means.{openedMeans, placeMeans, pointMeans, areaMeans, countMeans, factorMeans, ranMeans, unpackedMeans};
+ghost use Rattle.answers.specs.Lent.{leaves, itself};
 
 pub fn give_place(a: PlaceAnswer, out: &mut u16) -> u8
     requires { ⌜ valueOf (placeMeans a) < 65536 ⌝ }
     ensures { λ r. ⌜ r ≡ numberOf (placeMeans a) ⌝ }
-    ensures { λ _. ⌜ now (out .exit) ≡ cellAfter (placeMeans a) (now (out .entry)) ⌝ }
+    ensures { λ _. ⌜ now (out .exit) ≡ leaves itself (placeMeans a) (now (out .entry)) ⌝ }
 {
     match a {
         PlaceAnswer::At(p) => {
@@ -34,7 +31,7 @@ pub fn give_place(a: PlaceAnswer, out: &mut u16) -> u8
 pub fn give_point(a: PointAnswer, out: &mut u16) -> u8
     requires { ⌜ valueOf (pointMeans a) < 65536 ⌝ }
     ensures { λ r. ⌜ r ≡ numberOf (pointMeans a) ⌝ }
-    ensures { λ _. ⌜ now (out .exit) ≡ cellAfter (pointMeans a) (now (out .entry)) ⌝ }
+    ensures { λ _. ⌜ now (out .exit) ≡ leaves itself (pointMeans a) (now (out .entry)) ⌝ }
 {
     match a {
         PointAnswer::Is(p) => {
@@ -49,7 +46,7 @@ pub fn give_point(a: PointAnswer, out: &mut u16) -> u8
 pub fn give_area(a: AreaAnswer, out: &mut u16) -> u8
     requires { ⌜ valueOf (areaMeans a) < 65536 ⌝ }
     ensures { λ r. ⌜ r ≡ numberOf (areaMeans a) ⌝ }
-    ensures { λ _. ⌜ now (out .exit) ≡ cellAfter (areaMeans a) (now (out .entry)) ⌝ }
+    ensures { λ _. ⌜ now (out .exit) ≡ leaves itself (areaMeans a) (now (out .entry)) ⌝ }
 {
     match a {
         AreaAnswer::Is(p) => {
@@ -64,7 +61,7 @@ pub fn give_area(a: AreaAnswer, out: &mut u16) -> u8
 pub fn give_count(a: Count, out: &mut u16) -> u8
     requires { ⌜ valueOf (countMeans a) < 65536 ⌝ }
     ensures { λ r. ⌜ r ≡ numberOf (countMeans a) ⌝ }
-    ensures { λ _. ⌜ now (out .exit) ≡ cellAfter (countMeans a) (now (out .entry)) ⌝ }
+    ensures { λ _. ⌜ now (out .exit) ≡ leaves itself (countMeans a) (now (out .entry)) ⌝ }
 {
     match a {
         Count::Of(x) => {
@@ -77,7 +74,7 @@ pub fn give_count(a: Count, out: &mut u16) -> u8
 
 pub fn give_factor(a: FactorAnswer, out: &mut f64) -> u8
     ensures { λ r. ⌜ r ≡ numberOf (factorMeans a) ⌝ }
-    ensures { λ _. ⌜ now (out .exit) ≡ cellAfter (factorMeans a) (now (out .entry)) ⌝ }
+    ensures { λ _. ⌜ now (out .exit) ≡ leaves itself (factorMeans a) (now (out .entry)) ⌝ }
 {
     match a {
         FactorAnswer::Is(x) => {
@@ -90,10 +87,10 @@ pub fn give_factor(a: FactorAnswer, out: &mut f64) -> u8
 
 // m and n, in two cells.
 pub fn give_size(a: Opened, m: &mut u16, n: &mut u16) -> u8
-    requires { ⌜ (valueOf (bordersGiven (openedMeans a)) < 65536) × (valueOf (pointsGiven (openedMeans a)) < 65536) ⌝ }
+    requires { ⌜ (valueOf (told (λ (z : Size). z .m) (openedMeans a)) < 65536) × (valueOf (told (λ (z : Size). z .n) (openedMeans a)) < 65536) ⌝ }
     ensures { λ r. ⌜ r ≡ numberOf (openedMeans a) ⌝ }
-    ensures { λ _. ⌜ now (m .exit) ≡ cellAfter (bordersGiven (openedMeans a)) (now (m .entry)) ⌝ }
-    ensures { λ _. ⌜ now (n .exit) ≡ cellAfter (pointsGiven (openedMeans a)) (now (n .entry)) ⌝ }
+    ensures { λ _. ⌜ now (m .exit) ≡ leaves itself (told (λ (z : Size). z .m) (openedMeans a)) (now (m .entry)) ⌝ }
+    ensures { λ _. ⌜ now (n .exit) ≡ leaves itself (told (λ (z : Size). z .n) (openedMeans a)) (now (n .entry)) ⌝ }
 {
     match a {
         Opened::Size(borders, points) => {
@@ -109,7 +106,7 @@ pub fn give_size(a: Opened, m: &mut u16, n: &mut u16) -> u8
 pub fn give_borders(a: Unpacked, m: &mut u16) -> u8
     requires { ⌜ valueOf (unpackedMeans a) < 65536 ⌝ }
     ensures { λ r. ⌜ r ≡ numberOf (unpackedMeans a) ⌝ }
-    ensures { λ _. ⌜ now (m .exit) ≡ cellAfter (unpackedMeans a) (now (m .entry)) ⌝ }
+    ensures { λ _. ⌜ now (m .exit) ≡ leaves itself (unpackedMeans a) (now (m .entry)) ⌝ }
 {
     match a {
         Unpacked::Borders(x) => {
@@ -123,7 +120,7 @@ pub fn give_borders(a: Unpacked, m: &mut u16) -> u8
 // The place that a session leaves.
 pub fn give_left(a: Ran, place: &mut usize) -> u8
     ensures { λ r. ⌜ r ≡ numberOf (ranMeans a) ⌝ }
-    ensures { λ _. ⌜ now (place .exit) ≡ cellAfter (ranMeans a) (now (place .entry)) ⌝ }
+    ensures { λ _. ⌜ now (place .exit) ≡ leaves itself (ranMeans a) (now (place .entry)) ⌝ }
 {
     match a {
         Ran::At(p) => {

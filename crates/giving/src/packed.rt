@@ -1,16 +1,16 @@
 // From an answer of packing to what is returned and a cell.
-use packing::Packed;
+use answers::Packed;
 ghost use mathlib.Core.Path.{_≡_};
 ghost use Prim.Native.Nat.{_+_, _*_, _<_};
-ghost use Rattle.packing.specs.Answers.{packedMeans};
-ghost use Rattle.giving.specs.Cells.{cellAfter};
+ghost use Rattle.answers.specs.Means.{packedMeans};
+ghost use Rattle.answers.specs.Lent.{leaves, itself};
 ghost use Rattle.giving.specs.Desk.{returned, Small};
 
 // The length goes to the cell, and what is returned is the status with what 7 carries.
 pub fn give_length(p: Packed, length: &mut u16) -> u32
     requires { ⌜ Small p ⌝ }
     ensures { λ r. ⌜ r ≡ returned p ⌝ }
-    ensures { λ _. ⌜ now (length .exit) ≡ cellAfter (packedMeans p) (now (length .entry)) ⌝ }
+    ensures { λ _. ⌜ now (length .exit) ≡ leaves itself (packedMeans p) (now (length .entry)) ⌝ }
 {
     match p {
         Packed::Length(l) => {

@@ -22,6 +22,7 @@ use Rattle.count.specs.Below.{count, nth, gather, find}
 use Rattle.count.proofs.Logic.{same-or-not}
 use Rattle.count.proofs.Below.{count-zero, count-yes, count-no, count-le, count-none, nth-of-count, nth-below, find-has, find-not}
 use Rattle.count.proofs.Lists.{gather-length, gather-getD}
+use Rattle.answers.specs.Answer.{Kind}
 use Rattle.words.specs.Brackets.{number, step, first, size}
 use Rattle.words.specs.declared.family.Family.the-variants.{Square as square}
 use Rattle.words.specs.Word.{seen, crossing}
@@ -29,7 +30,6 @@ use Rattle.words.proofs.Step.{inner-step}
 use Rattle.words.proofs.Numbers.{inner-number}
 use Rattle.words.proofs.Crossing.{crossing-below}
 use Rattle.words.proofs.Order.{walk-more, walk-last}
-use Rattle.drawing.specs.Drawing.{Kind}
 use Rattle.format.specs.Bytes.{sizeIn, bitsA, wordIn}
 use Rattle.format.specs.Open.{openRefusal}
 use Rattle.format.specs.Calls.{cellsIn, landingsIn}

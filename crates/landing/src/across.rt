@@ -1,7 +1,7 @@
 // Filling a list with the areas across the sides of an area.
-use bits::wide;
+use lending::wide;
 use layout::bits_a;
-use opening::Area;
+use answers::Area;
 use opening::Cell;
 use surveying::survey;
 use walking::crossing_at;
@@ -13,8 +13,8 @@ ghost use mathlib.Core.Path.{_≡_};
 ghost use Prim.Native.Nat.{_≤_};
 ghost use lib.ListN.{length};
 ghost use Rattle.words.specs.declared.family.Family.the-variants.{Square as square};
-ghost use Rattle.opening.specs.declared.answers.Cell.{Cell};
 ghost use Rattle.format.specs.Open.{openRefusal};
+ghost use Rattle.opening.specs.declared.cells.Cell.{Cell};
 ghost use Rattle.surveying.specs.Surveyed.{Mates, Numbers};
 ghost use Rattle.walking.specs.Positions.{Numbered};
 ghost use Rattle.landing.specs.Landed.{Landed};

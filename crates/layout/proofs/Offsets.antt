@@ -15,10 +15,11 @@ use Prim.Native.Nat.{ℕ, zero, suc, _+_, _-_, _*_, _≤_, min}
 use native.Mathlib.Omega.{arith}
 use lib.ListN.{length, take, drop, length-drop, drop-of-length-le}
 use Rattle.count.proofs.Logic.{lt-or-ge}
+use Rattle.answers.specs.Answer.{Size}
 use Rattle.words.specs.declared.family.Family.{Family}
 use Rattle.words.specs.declared.family.Family.the-variants.{Round as round, Square as square}
 use Rattle.bits.specs.Strings.{bytesFor}
-use Rattle.format.specs.Bytes.{header, Size, sizeIn, bitsA, bitsB, startB, mapLength, part, partA, partB}
+use Rattle.format.specs.Bytes.{header, sizeIn, bitsA, bitsB, startB, mapLength, part, partA, partB}
 
 -- ---- sizes
 module _ (z : Size) (K : Family) (r : ℕ) where

@@ -5,7 +5,7 @@ use crate::header::borders;
 use crate::header::minus;
 use crate::header::points;
 use bits::bytes_for;
-use bits::least;
+use lending::least;
 use format::HEADER;
 use words::Family;
 ghost use mathlib.Core.Path.{_≡_};

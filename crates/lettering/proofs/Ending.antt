@@ -10,12 +10,13 @@ use native.Mathlib.Omega.{arith}
 use lib.ListN.{length, take, drop, length-take, length-drop, take-append-drop}
 use lib.Seq.{getD-take, getD-drop, drop-drop, ext-getD}
 use Rattle.count.specs.Below.{count}
+use Rattle.answers.specs.Lent.{laid}
+use Rattle.answers.specs.Answer.{Size}
 use Rattle.words.specs.declared.family.Family.{Family}
 use Rattle.words.specs.declared.family.Family.the-variants.{Round as round, Square as square}
 use Rattle.words.specs.Word.{Word}
 use Rattle.bits.specs.Strings.{bytesFor}
-use Rattle.drawing.specs.Laid.{laid}
-use Rattle.format.specs.Bytes.{header, Size, headerOf, startB, mapLength, stringA, stringB, bytesOf, mapBytes}
+use Rattle.format.specs.Bytes.{header, headerOf, startB, mapLength, stringA, stringB, bytesOf, mapBytes}
 use Rattle.format.proofs.Bits.{EachBelow}
 use Rattle.format.proofs.Strings.{inFamily, string-a-length, string-a-bits, string-b-length, string-b-bits}
 use Rattle.format.proofs.Parts.{map-length}

@@ -20,12 +20,13 @@ use lib.ListN.{length, getD, take, drop, length-take, length-drop, List·getD-eq
 use lib.Seq.{getD-set-other, getD-append-add, getD-take, getD-drop}
 use Rattle.count.specs.Below.{pick}
 use Rattle.count.proofs.Logic.{same-or-not, lt-or-ge}
+use Rattle.answers.specs.Lent.{laid}
+use Rattle.answers.specs.Answer.{Size}
 use Rattle.bits.specs.Strings.{bit, bytesFor}
 use Rattle.bits.specs.Writes.{withBit, setBit}
 use Rattle.bits.proofs.Laws.{bit-past}
 use Rattle.bits.proofs.Stores.{set-bit-length, set-bit-here, set-bit-other, set-bit-small}
-use Rattle.drawing.specs.Laid.{laid}
-use Rattle.format.specs.Bytes.{header, atM, atN, atAreas, Size, areasOf, headerOf, bytesOf}
+use Rattle.format.specs.Bytes.{header, atM, atN, atAreas, areasOf, headerOf, bytesOf}
 use Rattle.format.proofs.Bits.{EachBelow, each-below, bytes-of-length, bytes-of-bit, bytes-of-small, bytes-same}
 use Rattle.lettering.specs.Lettering.{Holds, withTwo}
 

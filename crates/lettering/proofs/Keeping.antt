@@ -17,18 +17,20 @@ use mathlib.Core.List.{List}
 use Prim.Native.Nat.{ℕ, _+_, _-_, _*_, _/_, _<_, _≤_}
 use native.Mathlib.Omega.{arith}
 use lib.ListN.{length, getD, drop, List·getD-append}
+use Rattle.lending.proofs.Clearing.{cleared-length, cleared-first, cleared-rest}
 use Rattle.count.specs.Below.{pick, count}
 use Rattle.count.proofs.Logic.{true-or-false, true-not-false}
 use Rattle.count.proofs.Below.{count-zero, count-yes, count-no, count-before, count-le}
+use Rattle.answers.specs.Lent.{cleared, laid}
+use Rattle.answers.specs.Answer.{Size}
 use Rattle.words.specs.declared.family.Family.{Family}
 use Rattle.words.specs.declared.family.Family.the-variants.{Round as round, Square as square}
 use Rattle.words.specs.Word.{sameFamily, Word}
 use Rattle.bits.specs.Strings.{bytesFor}
-use Rattle.bits.specs.Writes.{setBit, cleared}
-use Rattle.bits.proofs.Stores.{set-bit-length, cleared-length, cleared-first, cleared-rest}
+use Rattle.bits.specs.Writes.{setBit}
+use Rattle.bits.proofs.Stores.{set-bit-length}
 use Rattle.drawing.specs.Drawing.{mostEnds}
-use Rattle.drawing.specs.Laid.{laid}
-use Rattle.format.specs.Bytes.{longest, header, Size, headerOf, bitsB, startB, mapLength, familyBit, closingBit, stringA, stringB}
+use Rattle.format.specs.Bytes.{longest, header, headerOf, bitsB, startB, mapLength, familyBit, closingBit, stringA, stringB}
 use Rattle.format.specs.Fits.{Fits}
 use Rattle.format.proofs.Strings.{inFamily, families-all, family-itself, family-is, string-a-length, string-a-at, string-b-length, string-b-at}
 use Rattle.format.proofs.Parts.{Lengths}

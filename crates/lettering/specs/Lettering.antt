@@ -15,14 +15,15 @@ use mathlib.Core.List.{List}
 use Prim.Native.Nat.{ℕ, _+_, _-_, _*_, _/_, _%_, _<_, _≤_}
 use lib.ListN.{length, getD, set}
 use Rattle.count.specs.Below.{pick, count}
+use Rattle.answers.specs.Lent.{cleared, laid}
+use Rattle.answers.specs.Answer.{Size}
 use Rattle.words.specs.declared.family.Family.{Family}
 use Rattle.words.specs.declared.family.Family.the-variants.{Round as round}
 use Rattle.words.specs.Word.{sameFamily, Word}
 use Rattle.bits.specs.Strings.{bit, bytesFor}
-use Rattle.bits.specs.Writes.{setBit, cleared}
+use Rattle.bits.specs.Writes.{setBit}
 use Rattle.drawing.specs.Drawing.{mostBorders}
-use Rattle.drawing.specs.Laid.{laid}
-use Rattle.format.specs.Bytes.{header, Size, headerOf, startB, mapLength, stringA, stringB}
+use Rattle.format.specs.Bytes.{header, headerOf, startB, mapLength, stringA, stringB}
 
 unfoldable pub withTwo : List ℕ → ℕ → ℕ → List ℕ
 withTwo s i x = set (set s i (x % 256)) (i + 1) (x / 256 % 256)

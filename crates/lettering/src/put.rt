@@ -1,6 +1,6 @@
 // The map's bytes: the header, then A, B and B*, each from a fresh byte, a letter at a time.
 use bits::bytes_for;
-use bits::least;
+use lending::least;
 use format::AT_AREAS;
 use format::AT_M;
 use format::AT_N;
@@ -9,10 +9,9 @@ ghost use mathlib.Core.Path.{_≡_};
 ghost use Prim.Native.Nat.{_+_, _*_, _<_, _≤_};
 ghost use lib.ListN.{length};
 ghost use Rattle.count.specs.Below.{pick};
+ghost use Rattle.answers.specs.Lent.{cleared, laid};
 ghost use Rattle.words.specs.declared.family.Family.the-variants.{Round as round, Square as square};
-ghost use Rattle.bits.specs.Writes.{cleared};
 ghost use Rattle.drawing.specs.Drawing.{mostBorders, mostEnds};
-ghost use Rattle.drawing.specs.Laid.{laid};
 ghost use Rattle.format.specs.Bytes.{longest, header, headerOf, startB, mapLength};
 ghost use Rattle.lettering.specs.Lettering.{begun, withLetter, withTwo};
 

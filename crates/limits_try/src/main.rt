@@ -5,8 +5,8 @@ use format::AT_M;
 use format::AT_N;
 use format::LONGEST;
 use libc::STDOUT_FILENO;
-use opening::Opened;
-use packing::Packed;
+use answers::Opened;
+use answers::Packed;
 
 // The drawings tried: one point with loops, one point with dangling borders, and loops with a single dangling border.
 const LOOPS: usize = 0;

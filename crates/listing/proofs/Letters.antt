@@ -7,7 +7,7 @@ use mathlib.Core.List.{[], _∷_}
 use Prim.Native.Nat.{ℕ}
 use borrow.Author.Tests.{eq-eqb, ne-eqb}
 use Rattle.text.specs.Listing.{kind}
-use Rattle.listing.specs.Running.{letterFrom}
+use Rattle.text.specs.Running.{letterFrom}
 
 -- 01: "In listings the four kinds are ( ) for B and [ ] for B*."
 module _ (x b c : ℕ) where

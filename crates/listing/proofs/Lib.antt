@@ -1,5 +1,4 @@
 -- The listing of a map: laws.
 pub mod Letters
 pub mod Listed
-pub mod Running
 pub mod Texts

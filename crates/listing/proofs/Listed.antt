@@ -26,6 +26,7 @@ use Rattle.words.specs.declared.family.Family.the-variants.{Round as round, Squ
 use Rattle.words.specs.Word.{Word, seen, crossing}
 use Rattle.words.proofs.Numbers.{number-range}
 use Rattle.drawing.specs.Session.{Call}
+use Rattle.text.specs.Running.{counts}
 use Rattle.bits.specs.Strings.{bit}
 use Rattle.format.specs.Bytes.{sizeIn, bitsA, partA, wordIn}
 use Rattle.format.specs.Calls.{moveIn}
@@ -38,8 +39,7 @@ use Rattle.printing.specs.Writing.{Wrote}
 use Rattle.printing.proofs.Writes.{wrote-none, wrote-then, wrote-as}
 use Rattle.listing.specs.declared.line.Line.{Line}
 use Rattle.listing.specs.Lines.{lineText, Says}
-use Rattle.listing.specs.Running.{counts}
-use Rattle.listing.proofs.Running.{counts-le, running-rank}
+use Rattle.text.proofs.Running.{counts-le, running-rank}
 
 number-few : (s : List ℕ) (K : Family) (p x : ℕ) → Position s p → x ≡ number (seen K (wordIn s)) p → x < 10000
 number-few s K p x P e =

@@ -7,13 +7,12 @@ use mathlib.Core.Path.{_≡_, refl}
 use mathlib.Core.List.{List}
 use Prim.Native.Nat.{ℕ}
 use native.Mathlib.Omega.{arith}
-use Rattle.drawing.specs.Session.{answer}
+use Rattle.answers.specs.Answer.{answer}
 use Rattle.format.specs.Bytes.{sizeIn, bitsA, wordIn}
-use Rattle.format.specs.Open.{opened}
-use Rattle.text.specs.Listing.{heading, placeLines, listing, shown, listed}
+use Rattle.format.proofs.Passes.{opened}
+use Rattle.text.specs.Listing.{heading, placeLines, listing, shown, listed, printed}
 use Rattle.printing.specs.Writing.{Wrote}
 use Rattle.printing.proofs.Writes.{wrote-then}
-use Rattle.listing.specs.Printed.{printed}
 
 pub listing-wrote : (old new : List ℕ) (r : ℕ) (s : List ℕ) (a : ℕ) (mid : List ℕ) → Wrote old 0 heading a mid
     → Wrote mid a (placeLines (wordIn s) 0 (bitsA (sizeIn s))) r new → Wrote old 0 (listing s) r new

@@ -1,4 +1,2 @@
 -- The listing of a map: definitions.
 pub mod Lines
-pub mod Printed
-pub mod Running

@@ -1,7 +1,7 @@
 // One line of a listing: what it says, and its text.
-use opening::Area;
-use opening::Place;
-use opening::Point;
+use answers::Area;
+use answers::Place;
+use answers::Point;
 use printing::put_byte;
 use printing::put_number;
 ghost use mathlib.Core.List.{[], _∷_};

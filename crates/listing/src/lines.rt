@@ -8,7 +8,7 @@ use bits::bit;
 use layout::bits_a;
 use layout::part_a;
 use layout::part_b;
-use opening::Place;
+use answers::Place;
 use surveying::area_in;
 use surveying::crossing_in;
 use surveying::point_in;
@@ -22,12 +22,12 @@ ghost use Rattle.words.specs.declared.family.Family.the-variants.{Round as roun
 ghost use Rattle.drawing.specs.Drawing.{mostEnds};
 ghost use Rattle.format.specs.Bytes.{sizeIn, bitsA, wordIn};
 ghost use Rattle.format.specs.Open.{openRefusal};
+ghost use Rattle.text.specs.Running.{letterFrom};
 ghost use Rattle.printing.specs.Writing.{Wrote};
 ghost use Rattle.surveying.specs.Surveyed.{Mates, Numbers};
 ghost use Rattle.text.specs.Listing.{kind, placeLines};
 ghost use Rattle.walking.specs.Positions.{Position};
 ghost use Rattle.listing.specs.Lines.{Says};
-ghost use Rattle.listing.specs.Running.{letterFrom};
 
 // The lines of all places, from byte `at` on. The byte after them.
 pub fn put_lines(map: &[u8], out: &mut [u8], at: usize) -> usize

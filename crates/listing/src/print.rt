@@ -5,11 +5,10 @@ use printing::put_text;
 ghost use mathlib.Core.Path.{_≡_};
 ghost use Prim.Native.Nat.{_≤_};
 ghost use lib.ListN.{length};
-ghost use Rattle.drawing.specs.Laid.{laid};
+ghost use Rattle.answers.specs.Lent.{laid};
 ghost use Rattle.format.specs.Open.{openRefusal};
 ghost use Rattle.printing.specs.Writing.{Wrote};
-ghost use Rattle.text.specs.Listing.{listing, refusedLine};
-ghost use Rattle.listing.specs.Printed.{printed};
+ghost use Rattle.text.specs.Listing.{listing, refusedLine, printed};
 
 // The room of the longest listing: the heading, and 4,096 lines of at most 22 bytes.
 pub const ROOM: usize = 26 + MOST_ENDS * 22;

@@ -12,10 +12,9 @@ use native.Mathlib.Omega.{arith}
 use borrow.Author.Tests.{eq-eqb, ne-eqb}
 use lib.Dec.{eqb}
 use Rattle.count.proofs.Logic.{pick-yes, pick-no}
+use Rattle.answers.specs.Answer.{answer, refused, Kind}
 use Rattle.words.specs.Brackets.{first}
 use Rattle.words.specs.Word.{seen}
-use Rattle.drawing.specs.Drawing.{Kind}
-use Rattle.drawing.specs.Session.{answer, refused}
 use Rattle.format.specs.Bytes.{sizeIn, bitsA, wordIn}
 use Rattle.format.specs.Calls.{familyOfKind, firstIn, firstOf, placesIn, sizeOf, neighboursOf}
 use Rattle.neighbouring.specs.Counted.{neighboursAt}

@@ -8,11 +8,10 @@ use mathlib.Core.Bool.{Bool, true, false, _&&_}
 use mathlib.Core.List.{List}
 use Prim.Native.Nat.{ℕ, _-_}
 use Rattle.count.specs.Below.{pick}
-use Rattle.drawing.specs.Drawing.{Kind}
-use Rattle.drawing.specs.Session.{Answer, answer, refused}
+use Rattle.answers.specs.Answer.{Answer, answer, refused, Kind}
 use Rattle.format.specs.Bytes.{sizeIn, wordIn}
 use Rattle.format.specs.Calls.{isNumber, joiningOf}
-use Rattle.format.specs.Open.{opened}
+use Rattle.format.proofs.Passes.{opened}
 use Rattle.opening.specs.Checks.{cellRefusal}
 use Rattle.opening.proofs.Passed.{cell-declines, cell-answers}
 use Rattle.searching.specs.Joined.{joinedIn}

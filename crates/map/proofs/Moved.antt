@@ -8,12 +8,14 @@ use mathlib.Core.Path.{_≡_, ap, _∙_}
 use mathlib.Core.List.{List}
 use Prim.Native.Nat.{ℕ, pred, _+_, _-_}
 use native.Mathlib.Omega.{arith}
+use Rattle.answers.specs.Answer.{answer, refused}
 use Rattle.words.specs.Brackets.{step, number}
 use Rattle.words.specs.declared.family.Family.the-variants.{Round as round, Square as square}
 use Rattle.words.specs.Word.{seen, crossing}
-use Rattle.drawing.specs.Session.{answer, refused, Call}
+use Rattle.drawing.specs.Session.{Call}
 use Rattle.format.specs.Bytes.{sizeIn, bitsA, wordIn}
-use Rattle.format.specs.Calls.{moveIn, atPlace, mapAnswer}
+use Rattle.format.specs.Calls.{moveIn, mapAnswer}
+use Rattle.format.proofs.Places.{atPlace}
 use Rattle.opening.specs.Checks.{placeRefusal}
 use Rattle.opening.proofs.Passed.{place-declines, place-answers}
 

@@ -1,6 +1,6 @@
 // The four moves: from a place to a place.
-use opening::Place;
-use opening::PlaceAnswer;
+use answers::Place;
+use answers::PlaceAnswer;
 use opening::place_refusal;
 use walking::crossing_at;
 use walking::mate_at;
@@ -9,10 +9,10 @@ use walking::turn_back_past;
 use walking::turn_past;
 use words::Family;
 ghost use mathlib.Core.Path.{_≡_};
+ghost use Rattle.answers.specs.Means.{placeMeans};
 ghost use Rattle.drawing.specs.Session.{Call};
 ghost use Rattle.format.specs.Bytes.{wordIn};
 ghost use Rattle.format.specs.Calls.{moveIn, crossOf, turnOf, turnBackOf, alongOf};
-ghost use Rattle.opening.specs.Answers.{placeMeans};
 ghost use Rattle.walking.specs.Positions.{Position};
 
 // The place of the other end.

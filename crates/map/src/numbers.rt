@@ -1,14 +1,14 @@
 // Points and areas: those of a place, their first places, how many places they have, and an area's neighbours.
 use layout::bits_a;
 use neighbouring::neighbours_at;
-use opening::Area;
-use opening::AreaAnswer;
+use answers::Area;
+use answers::AreaAnswer;
 use opening::Cell;
-use opening::Count;
-use opening::Place;
-use opening::PlaceAnswer;
-use opening::Point;
-use opening::PointAnswer;
+use answers::Count;
+use answers::Place;
+use answers::PlaceAnswer;
+use answers::Point;
+use answers::PointAnswer;
 use opening::cell_refusal;
 use opening::place_refusal;
 use sizing::size_at;
@@ -16,9 +16,9 @@ use walking::area_of;
 use walking::first_at;
 use walking::point_of;
 ghost use mathlib.Core.Path.{_≡_};
-ghost use Rattle.drawing.specs.Drawing.{Kind};
+ghost use Rattle.answers.specs.Means.{placeMeans, pointMeans, areaMeans, countMeans};
+ghost use Rattle.answers.specs.Answer.{Kind};
 ghost use Rattle.format.specs.Calls.{pointOf, areaOf, firstOf, sizeOf, neighboursOf};
-ghost use Rattle.opening.specs.Answers.{placeMeans, pointMeans, areaMeans, countMeans};
 ghost use Rattle.opening.specs.Cells.{kindOf, numberOfCell};
 
 // The point that a place is about.

@@ -1,14 +1,14 @@
 // The joining border of two points.
 use opening::Cell;
-use opening::Place;
-use opening::PlaceAnswer;
-use opening::Point;
+use answers::Place;
+use answers::PlaceAnswer;
+use answers::Point;
 use opening::cell_refusal;
 use opening::is_number;
 use searching::join_at;
 ghost use mathlib.Core.Path.{_≡_};
+ghost use Rattle.answers.specs.Means.{placeMeans};
 ghost use Rattle.format.specs.Calls.{joiningOf};
-ghost use Rattle.opening.specs.Answers.{placeMeans};
 
 // The first place about u, in turning order, whose crossing lands at v; 0 if none does.
 pub fn joining(map: &[u8], u: Point, v: Point) -> PlaceAnswer

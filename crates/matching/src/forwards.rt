@@ -2,7 +2,7 @@
 use crate::bytes::entries;
 use crate::bytes::entry;
 use crate::scans::Scan;
-use bits::least;
+use lending::least;
 ghost use mathlib.Core.Path.{_≡_};
 ghost use Prim.Native.Nat.{_*_, _≤_, min};
 ghost use lib.ListN.{length};

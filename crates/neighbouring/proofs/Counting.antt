@@ -20,17 +20,17 @@ use borrow.Author.Tests.{eq-eqb, ne-eqb, eqb-true}
 use Rattle.count.specs.Below.{pick, count, nth, any}
 use Rattle.count.proofs.Logic.{same-or-not, true-or-false, true-not-false, bool-same, one-of, either-left, either-right, both, not-both}
 use Rattle.count.proofs.Below.{count-le, count-none, count-same, count-stays, count-before, count-one-less, nth-below, nth-has, nth-of-count, any-has, any-from}
+use Rattle.answers.specs.declared.numbers.Area.{Area}
+use Rattle.answers.specs.Answer.{Kind}
 use Rattle.words.specs.Brackets.{number}
 use Rattle.words.specs.declared.family.Family.the-variants.{Square as square}
 use Rattle.words.specs.Word.{seen, crossing}
-use Rattle.drawing.specs.Drawing.{Kind}
 use Rattle.drawing.specs.Neighbours.{isAcross, neighbours}
 use Rattle.drawing.proofs.Neighbours.{across-is}
 use Rattle.format.specs.Bytes.{sizeIn, bitsA, wordIn}
 use Rattle.format.specs.Calls.{cellsIn, neighboursIn}
 use Rattle.format.proofs.Openings.{areas-most}
-use Rattle.opening.specs.declared.answers.Area.{Area}
-use Rattle.opening.specs.declared.answers.Cell.{Cell}
+use Rattle.opening.specs.declared.cells.Cell.{Cell}
 use Rattle.walking.specs.Positions.{Numbered}
 use Rattle.landing.specs.Landed.{Landed}
 use Rattle.landing.proofs.Gathering.{landed-count, landed-most, landed-at, landed-range}

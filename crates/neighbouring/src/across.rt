@@ -1,9 +1,9 @@
 // Counting the other areas across the sides of an area, in one loop over the list of them.
-use bits::wide;
+use lending::wide;
 use landing::land;
-use opening::Area;
+use answers::Area;
 ghost use mathlib.Core.Path.{_≡_};
-ghost use Rattle.opening.specs.declared.answers.Cell.{Cell};
+ghost use Rattle.opening.specs.declared.cells.Cell.{Cell};
 ghost use Rattle.walking.specs.Positions.{Numbered};
 ghost use Rattle.neighbouring.specs.Counted.{neighboursAt, othersIn, Countable};
 

@@ -12,14 +12,13 @@ use Prim.Native.Nat.{ℕ, _≤_}
 use lib.Dec.{ltb, leb}
 use lib.ListN.{drop}
 use Rattle.count.specs.Below.{pick}
-use Rattle.refusals.specs.Checks.{Check, numbered}
-use Rattle.refusals.proofs.Steps.{tests-passed, none-append, checked-none, checked-some}
-use Rattle.drawing.specs.Drawing.{Kind}
-use Rattle.drawing.specs.Book.{noSuch}
-use Rattle.drawing.specs.Session.{Answer, answer, refused}
+use Rattle.answers.specs.Checks.{Check, numbered}
+use Rattle.answers.proofs.Steps.{tests-passed, none-append, checked-none, checked-some}
+use Rattle.answers.specs.Answer.{Answer, answer, refused, Kind, noSuch}
 use Rattle.format.specs.Bytes.{sizeIn, bitsA}
-use Rattle.format.specs.Open.{openChecks, openRefusal, opened}
+use Rattle.format.specs.Open.{openChecks, openRefusal}
 use Rattle.format.specs.Calls.{placeChecks, cellsIn, isNumber, cellChecks}
+use Rattle.format.proofs.Passes.{opened}
 use Rattle.opening.specs.Checks.{placeRefusal, cellRefusal}
 use Rattle.opening.proofs.Refused.{inRange, range-has}
 

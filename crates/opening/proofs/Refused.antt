@@ -16,18 +16,17 @@ use borrow.Author.Tests.{ltb-true, leb-true, lt-ltb, le-leb}
 use lib.Dec.{ltb, leb}
 use lib.ListN.{drop}
 use Rattle.count.proofs.Logic.{both, both-left, both-right, not-both}
-use Rattle.refusals.specs.Checks.{Check}
-use Rattle.refusals.proofs.Steps.{first-stops, next-stops, next-passes}
-use Rattle.drawing.specs.Drawing.{Kind}
-use Rattle.drawing.specs.Book.{noSuch}
+use Rattle.answers.specs.Checks.{Check}
+use Rattle.answers.proofs.Steps.{first-stops, next-stops, next-passes}
+use Rattle.answers.specs.declared.numbers.Point.{Point}
+use Rattle.answers.specs.declared.numbers.Area.{Area}
+use Rattle.answers.specs.Answer.{Kind, noSuch}
 use Rattle.format.specs.Bytes.{sizeIn, bitsA}
 use Rattle.format.specs.Open.{openChecks, openRefusal}
 use Rattle.format.specs.Calls.{placeChecks, cellsIn, isNumber, cellChecks}
-use Rattle.opening.specs.declared.answers.Point.{Point}
-use Rattle.opening.specs.declared.answers.Area.{Area}
-use Rattle.opening.specs.declared.answers.Cell.{Cell}
 use Rattle.opening.specs.Cells.{kindOf, numberOfCell}
 use Rattle.opening.specs.Checks.{placeRefusal, cellRefusal}
+use Rattle.opening.specs.declared.cells.Cell.{Cell}
 
 unfoldable pub inRange : ℕ → ℕ → Bool
 inRange i n = ltb 0 i && leb i n

@@ -21,15 +21,15 @@ use borrow.Author.Tests.{le-leb, lt-leb, not-true, not-false}
 use lib.Dec.{eqb, leb}
 use lib.ListN.{length, getD}
 use Rattle.count.proofs.Logic.{true-not-false}
-use Rattle.refusals.proofs.Steps.{answered-none}
+use Rattle.answers.proofs.Steps.{answered-none}
+use Rattle.answers.specs.Answer.{Answer, answer, refused, Size}
 use Rattle.words.specs.Brackets.{balanced}
 use Rattle.words.specs.declared.family.Family.{Family}
 use Rattle.words.specs.declared.family.Family.the-variants.{Round as round, Square as square}
 use Rattle.bits.specs.Strings.{rank, brackets, unusedZero}
-use Rattle.drawing.specs.Session.{Answer, answer, refused}
-use Rattle.format.specs.Bytes.{header, Size, areasOf, sizeIn, writtenAreas, bitsA, bitsB, mapLength, partA, partB}
+use Rattle.format.specs.Bytes.{header, areasOf, sizeIn, writtenAreas, bitsA, bitsB, mapLength, partA, partB}
 use Rattle.format.specs.Open.{sizeFits, areasFit, lengthFits, unusedFits, onesFit, bracketsFit, openChecks, openRefusal, openOf, Opens}
-use Rattle.format.proofs.Passes.{opened-opens, opened-declines}
+use Rattle.format.proofs.Passes.{opened-opens, opened-declines, opened}
 
 -- a test r that was computed, and the test t that it computes
 module _ (r t : Bool) (e : r ≡ t) where
@@ -120,11 +120,11 @@ module _ (s : List ℕ) where
 
   -- ---- opening
   pub opens-size : (k m n : ℕ) → k ≡ openRefusal s → k ≡ 0 → m ≡ sizeIn s .m → n ≡ sizeIn s .n → _≡_ {A = Answer Size} (answer (record { m = m; n = n })) (openOf s)
-  unfolding openOf
+  unfolding openOf opened
   opens-size k m n e z p q = rw (p, q) (sym (opened-opens s (answer (sizeIn s)) (sym e ∙ z)))
 
   pub opens-not : (k : ℕ) → k ≡ openRefusal s → (k ≡ 0 → ⊥) → _≡_ {A = Answer Size} (refused k) (openOf s)
-  unfolding openOf
+  unfolding openOf opened
   opens-not k e n = ap refused e ∙ sym (opened-declines s (answer (sizeIn s)) (λ z. n (e ∙ z)))
 
 -- ---- what is known of a `&[u8]`: each entry is a value of its type, so that what is accepted is a byte string

@@ -4,15 +4,15 @@
 -- Assumes nothing.
 use mathlib.Core.Path.{_≡_}
 use Prim.Native.Nat.{ℕ, _<_}
-use Rattle.drawing.specs.Session.{valueOf}
-use Rattle.opening.specs.Answers.{placeMeans, pointMeans, areaMeans, countMeans}
-use Rattle.opening.specs.declared.answers.Place.{Place}
-use Rattle.opening.specs.declared.answers.Point.{Point}
-use Rattle.opening.specs.declared.answers.Area.{Area}
-use Rattle.opening.specs.declared.answers.PlaceAnswer.{PlaceAnswer}
-use Rattle.opening.specs.declared.answers.PointAnswer.{PointAnswer}
-use Rattle.opening.specs.declared.answers.AreaAnswer.{AreaAnswer}
-use Rattle.opening.specs.declared.answers.Count.{Count}
+use Rattle.answers.specs.Answer.{valueOf}
+use Rattle.answers.specs.Means.{placeMeans, pointMeans, areaMeans, countMeans}
+use Rattle.answers.specs.declared.numbers.Place.{Place}
+use Rattle.answers.specs.declared.numbers.Point.{Point}
+use Rattle.answers.specs.declared.numbers.Area.{Area}
+use Rattle.answers.specs.declared.cases.PlaceAnswer.{PlaceAnswer}
+use Rattle.answers.specs.declared.cases.PointAnswer.{PointAnswer}
+use Rattle.answers.specs.declared.cases.AreaAnswer.{AreaAnswer}
+use Rattle.answers.specs.declared.cases.Count.{Count}
 
 pub place-value : (a : PlaceAnswer) (p : Place) → a ≡ PlaceAnswer.At p → valueOf (placeMeans a) < 65536 → p .0 < 65536
 unfolding valueOf

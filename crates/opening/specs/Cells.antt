@@ -4,8 +4,8 @@
 -- numberOfCell c == its number
 -- Assumes nothing.
 use Prim.Native.Nat.{ℕ}
-use Rattle.drawing.specs.Drawing.{Kind}
-use Rattle.opening.specs.declared.answers.Cell.{Cell}
+use Rattle.answers.specs.Answer.{Kind}
+use Rattle.opening.specs.declared.cells.Cell.{Cell}
 
 abbrev pub kindOf : Cell → Kind
 kindOf (Cell.Point p) = Kind.point

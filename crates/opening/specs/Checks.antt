@@ -10,8 +10,8 @@
 use mathlib.Core.List.{List}
 use Prim.Native.Nat.{ℕ}
 use lib.ListN.{take, drop}
-use Rattle.refusals.specs.Checks.{Check, refusalIn}
-use Rattle.drawing.specs.Drawing.{Kind}
+use Rattle.answers.specs.Checks.{Check, refusalIn}
+use Rattle.answers.specs.Answer.{Kind}
 use Rattle.format.specs.Open.{openChecks}
 use Rattle.format.specs.Calls.{placeChecks, cellChecks}
 

@@ -1,5 +1,5 @@
 // Opening: checks 8, 20 and 9 to 12, each in one pass over its strings.
-use crate::answers::Opened;
+use answers::Opened;
 use format::HEADER;
 use format::MOST_BORDERS;
 use layout::areas;
@@ -13,12 +13,12 @@ use layout::points;
 use layout::written_areas;
 use words::Family;
 ghost use mathlib.Core.Path.{_≡_};
+ghost use Rattle.answers.specs.Answer.{answer, Size};
+ghost use Rattle.answers.specs.Means.{openedMeans};
 ghost use Rattle.words.specs.Brackets.{balanced};
 ghost use Rattle.bits.specs.Strings.{brackets, unusedZero};
-ghost use Rattle.drawing.specs.Session.{answer};
-ghost use Rattle.format.specs.Bytes.{Size, sizeIn, bitsA, bitsB, partA, partB};
+ghost use Rattle.format.specs.Bytes.{sizeIn, bitsA, bitsB, partA, partB};
 ghost use Rattle.format.specs.Open.{sizeFits, areasFit, lengthFits, unusedFits, onesFit, bracketsFit, openRefusal, Opens, openOf};
-ghost use Rattle.opening.specs.Answers.{openedMeans};
 ghost use Rattle.opening.specs.Checks.{headerRefusal};
 
 // "Opening gives m and n", or the number of the check that declines. What it accepts is a byte string that opens.

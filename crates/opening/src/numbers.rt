@@ -1,12 +1,12 @@
 // The check of a call's own number, after those of opening: 13, 14 and 15.
-use crate::answers::Cell;
-use crate::answers::Place;
+use crate::cells::Cell;
+use answers::Place;
 use crate::checks::refusal;
 use layout::areas;
 use layout::bits_a;
 use layout::points;
 ghost use mathlib.Core.Path.{_≡_};
-ghost use Rattle.drawing.specs.Book.{noSuch};
+ghost use Rattle.answers.specs.Answer.{noSuch};
 ghost use Rattle.format.specs.Bytes.{sizeIn};
 ghost use Rattle.format.specs.Calls.{cellsIn, isNumber};
 ghost use Rattle.opening.specs.Cells.{kindOf, numberOfCell};

@@ -18,11 +18,12 @@ use borrow.Author.Tests.{eq-eqb, eqb-true}
 use Rattle.count.specs.Below.{pick, count}
 use Rattle.count.proofs.Logic.{bool-same}
 use Rattle.count.proofs.Below.{any-has, any-from, count-same, count-le}
+use Rattle.answers.specs.Answer.{Kind}
 use Rattle.orbits.specs.Cycles.{Permutes}
 use Rattle.orbits.proofs.Conjugate.{count-renamed}
 use Rattle.words.specs.declared.family.Family.the-variants.{Round as round, Square as square}
 use Rattle.words.specs.Word.{sameFamily, Letter}
-use Rattle.drawing.specs.Drawing.{Drawing, Kind, borders, ends, border, isMarked, cells, endAt, isSecond}
+use Rattle.drawing.specs.Drawing.{Drawing, borders, ends, border, isMarked, cells, endAt, isSecond, lent}
 use Rattle.drawing.specs.Checks.{PassesSix, tourOf, markCount}
 use Rattle.drawing.proofs.Crossing.{Alike}
 use Rattle.drawing.proofs.Ends.{count-borders}
@@ -30,7 +31,6 @@ use Rattle.tours.proofs.Theorems.{passes-meets, tour-once, marks-at-least}
 use Rattle.format.specs.Bytes.{mapBytes}
 use Rattle.format.specs.Pack.{wordOf, packedBytes}
 use Rattle.format.proofs.Encode.{map-bytes-same}
-use Rattle.drawing.specs.Laid.{lent}
 use Rattle.checking.specs.Lent.{Blank, Kept}
 use Rattle.touring.specs.Working.{Outside, Zeroed, Tours, Clean, Noted, Charted, tourIn, borderIn, met}
 use Rattle.crossing.specs.Finding.{chartTour}

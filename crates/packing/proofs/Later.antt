@@ -15,36 +15,37 @@ use borrow.Author.Tests.{le-ltb}
 use lib.ListN.{length, getD}
 use Rattle.count.specs.Below.{Decides, pick}
 use Rattle.count.proofs.Logic.{true-or-false, pick-yes, pick-no}
-use Rattle.drawing.specs.Drawing.{Drawing, Kind, cells}
+use Rattle.answers.specs.Answer.{answer, refusedWith, refused, told, Kind}
+use Rattle.answers.specs.Lent.{laid, leaves}
+use Rattle.answers.specs.Means.{packedMeans}
+use Rattle.drawing.specs.Drawing.{Drawing, cells, lent}
 use Rattle.drawing.specs.Checks.{LengthsFit, InRange, PassesSix, distinct, joined, fewMarks, crosses, firstCrossing, tourOf, crossingIn, markCount}
-use Rattle.drawing.specs.Session.{answer, refusedWith, refused}
 use Rattle.drawing.proofs.Checks.{distinct-decides, few-decides}
 use Rattle.drawing.proofs.Labels.{joined-decides}
 use Rattle.drawing.proofs.Cells.{cells-some}
 use Rattle.drawing.proofs.Crossing.{crossing-in-same, no-crossing, some-crossing}
 use Rattle.drawing.proofs.Ends.{turn-permutes}
-use Rattle.refusals.specs.Checks.{checkAt}
-use Rattle.refusals.proofs.Steps.{Passed, refuses-at, answers-all}
+use Rattle.answers.specs.Checks.{checkAt}
+use Rattle.answers.proofs.Steps.{Passed, refuses-at, answers-all}
 use Rattle.format.specs.Pack.{packedBytes}
-use Rattle.drawing.specs.Laid.{lent, laid}
 use Rattle.checking.specs.Lent.{Ranged, Differ, Turns, Kept}
 use Rattle.checking.proofs.Decided.{passes, fails}
 use Rattle.checking.proofs.Laws.{ranged-from, turns-from, distinct-is}
-use Rattle.packing.specs.declared.answers.Packed.the-variants as the-case
+use Rattle.answers.specs.declared.cases.Packed.the-variants as the-case
 use Rattle.crossing.specs.declared.find.Found.{Found}
 use Rattle.crossing.specs.declared.find.Found.the-variants as the-found
-use Rattle.packing.specs.Answers.{packedMeans, lengthOf, written, laterChecks, laterOf, PacksLater}
 use Rattle.crossing.specs.Finding.{foundMeans, chartTour}
 use Rattle.writing.specs.Writing.{chartBytes}
 use Rattle.packing.proofs.Charting.{Chart, chart-bytes, chart-alike}
+use Rattle.packing.specs.Later.{laterChecks, laterOf, PacksLater}
 
 -- an early return, by check i of those after 3, which carries nothing
 declines : (D : Drawing) (i k : ℕ) (old : List ℕ) → Passed (laterChecks D) i → checkAt (laterChecks D) i .test ≡ false
     → checkAt (laterChecks D) i .number ≡ k → checkAt (laterChecks D) i .carries ≡ [] → PacksLater D (packedMeans (the-case.Declined k)) old old
-unfolding laterOf
+unfolding laterOf leaves
 declines D i k old p f n c =
     let a : laterOf D ≡ refused k = sym (refuses-at (laterChecks D) (answer (packedBytes D)) i p f) ∙ ap₂ refusedWith n c in
-    record { answers = sym (ap lengthOf a); output = sym (ap (λ x. written x old) a) }
+    record { answers = sym (ap (told length) a); output = sym (ap (λ x. leaves laid x old) a) }
 
 pub kept-same : (k : ℕ) (old new : List ℕ) → new ≡ old → Kept k old new
 kept-same k old new e = record { same-length = ap length e; rest = λ i h. ap (λ l. getD l i 0) e }
@@ -132,7 +133,7 @@ module _ (ts ms : List ℕ) (s : ℕ) (six : PassesSix (lent ts ms s)) where
 
     pub finish-pair : (x : Found) → foundMeans x ≡ crossingIn (chartTour ms w) → (a b : ℕ) → x ≡ the-found.Pair a b
         → (old : List ℕ) → PacksLater (lent ts ms s) (packedMeans (the-case.Crossing a b)) old old
-    unfolding laterOf
+    unfolding laterOf leaves
     finish-pair x Y a b f old =
         let is : a ∷ b ∷ [] ≡ firstCrossing G = sym (ap foundMeans f) ∙ found-is x Y in
         let t : crosses G ≡ true =
@@ -142,13 +143,13 @@ module _ (ts ms : List ℕ) (s : ℕ) (six : PassesSix (lent ts ms s)) where
         ] in
         let e : laterOf G ≡ refusedWith 7 (a ∷ b ∷ [])
         = sym (refuses-at (laterChecks G) (answer (packedBytes G)) 3 (four, (five, (few, tt))) (ap not t)) ∙ ap (refusedWith 7) (sym is) in
-        record { answers = sym (ap lengthOf e); output = sym (ap (λ x. written x old) e) }
+        record { answers = sym (ap (told length) e); output = sym (ap (λ x. leaves laid x old) e) }
 
     pub finish-none : (x : Found) → foundMeans x ≡ crossingIn (chartTour ms w) → x ≡ the-found.Nothing → (n : ℕ) → n ≡ cells (lent ts ms s) Kind.point
         → (v : List ℕ) → Chart (lent ts ms s) v → (r : ℕ) (old new : List ℕ)
         → r ≡ length (chartBytes n ms v) → new ≡ laid (chartBytes n ms v) old
         → PacksLater (lent ts ms s) (packedMeans (the-case.Length r)) old new
-    unfolding laterOf
+    unfolding laterOf leaves
     finish-none x Y f n e v K r old new p q =
         let is : [] ≡ firstCrossing G = sym (ap foundMeans f) ∙ found-is x Y in
         let t : crosses G ≡ false =
@@ -160,6 +161,6 @@ module _ (ts ms : List ℕ) (s : ℕ) (six : PassesSix (lent ts ms s)) where
         = sym (answers-all (laterChecks G) (answer (packedBytes G)) (four, (five, (few, (ap not t, tt))))) in
         let b = chart-bytes ts ms s six v K n e in
         record {
-          answers = ap answer (p ∙ ap length b) ∙ sym (ap lengthOf a);
-          output = q ∙ ap (λ x. laid x old) b ∙ sym (ap (λ x. written x old) a);
+          answers = ap answer (p ∙ ap length b) ∙ sym (ap (told length) a);
+          output = q ∙ ap (λ x. laid x old) b ∙ sym (ap (λ x. leaves laid x old) a);
         }

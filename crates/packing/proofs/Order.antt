@@ -12,27 +12,28 @@ use Prim.Native.Nat.{ℕ, suc, _*_, _<_, _≤_}
 use native.Mathlib.Omega.{arith}
 use borrow.Author.Tests.{le-leb, lt-leb, lt-ltb}
 use lib.ListN.{length, take}
-use Rattle.refusals.specs.Answer.{Answer, answer, refusedWith, refused}
-use Rattle.refusals.specs.Checks.{Check, checkAt}
-use Rattle.refusals.proofs.Steps.{Passed, stops-at, refuses-at, by-numbers, goes-on, goes-on-with}
-use Rattle.bits.specs.Writes.{cleared}
-use Rattle.drawing.specs.Drawing.{Drawing, borders}
+use Rattle.answers.specs.Answer.{Answer, answer, refusedWith, refused, told}
+use Rattle.answers.specs.Checks.{Check, checkAt}
+use Rattle.answers.proofs.Steps.{Passed, stops-at, refuses-at, by-numbers, goes-on, goes-on-with}
+use Rattle.answers.specs.Lent.{cleared, laid, leaves}
+use Rattle.answers.specs.Means.{packedMeans}
+use Rattle.drawing.specs.Drawing.{Drawing, borders, lent}
 use Rattle.drawing.specs.Checks.{InRange, lengthsFit, inRange}
 use Rattle.drawing.proofs.Checks.{range-decides}
 use Rattle.format.specs.Bytes.{longest}
 use Rattle.format.specs.Pack.{packedBytes, roomFits, packChecks, packRefusal, packOf, workLeft}
-use Rattle.drawing.specs.Laid.{lent}
+use Rattle.format.specs.Packs.{Packs}
 use Rattle.checking.specs.Lent.{Kept}
-use Rattle.packing.specs.declared.answers.Packed.the-variants as the-case
-use Rattle.packing.specs.Answers.{packedMeans, lengthOf, written, laterChecks, laterOf, Packs, PacksLater}
+use Rattle.answers.specs.declared.cases.Packed.the-variants as the-case
 use Rattle.checking.proofs.Decided.{passes, fails}
 use Rattle.checking.proofs.Working.{cleared-again}
+use Rattle.packing.specs.Later.{laterChecks, laterOf, PacksLater}
 
 -- an early return, by check i: one of 1 to 3
 early : (D : Drawing) (work out : List ℕ) (i k : ℕ) → let cs : List Check = packChecks D (length work) (length out) in
     Passed cs i → checkAt cs i .test ≡ false → checkAt cs i .number ≡ suc k → checkAt cs i .carries ≡ [] → k < 3
     → Packs D work work out out (packedMeans (the-case.Declined (suc k)))
-unfolding packRefusal packOf
+unfolding packRefusal packOf leaves
 early D work out i k p f n c l =
     let cs : List Check = packChecks D (length work) (length out) in
     let e : packRefusal D (length work) (length out) ≡ suc k = sym (stops-at cs i p f) ∙ n in
@@ -40,8 +41,8 @@ early D work out i k p f n c l =
     let t : workLeft (suc k) (borders D) work ≡ work
     = rw (lt-ltb 0 (suc k) (omega arith), le-leb (suc k) 3 (omega arith)) in
     record {
-      answers = sym (ap lengthOf a);
-      leaves = record { working = sym (ap (λ j. workLeft j (borders D) work) e ∙ t); output = sym (ap (λ x. written x out) a) };
+      answers = sym (ap (told length) a);
+      leaves = record { working = sym (ap (λ j. workLeft j (borders D) work) e ∙ t); output = sym (ap (λ x. leaves laid x out) a) };
     }
 
 pub pack-range : (ts ms : List ℕ) (s : ℕ) (q : Bool) → q ≡ inRange (lent ts ms s) → not q ≡ false → InRange (lent ts ms s)
@@ -90,10 +91,10 @@ module _ (ts ms : List ℕ) (s : ℕ) (old work : List ℕ) where
                 = rw (goes-on first (laterChecks E) p)
                 (by-numbers (λ j. workLeft j (length ms) work ≡ cleared (6 * length ms) work) (laterChecks E) (refl, (refl, (refl, (refl, refl))))) in
                 record {
-                  answers = P .answers ∙ sym (ap lengthOf same);
+                  answers = P .answers ∙ sym (ap (told length) same);
                   leaves =
                       record {
                         working = f ∙ cleared-again (6 * length ms) work v (rw e at K) ∙ sym left;
-                        output = P .output ∙ sym (ap (λ y. written y old) same);
+                        output = P .output ∙ sym (ap (λ y. leaves laid y old) same);
                       };
                 }

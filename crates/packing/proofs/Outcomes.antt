@@ -10,8 +10,8 @@ use Prim.Native.Nat.{ℕ, _≤_}
 use native.Mathlib.Omega.{arith}
 use lib.ListN.{length, take, drop, length-append}
 use lib.Seq.{take-at}
-use Rattle.drawing.specs.Session.{Answer, answer, refusedWith}
-use Rattle.packing.specs.Answers.{lengthOf, written}
+use Rattle.answers.specs.Answer.{Answer, answer, refusedWith, told}
+use Rattle.answers.specs.Lent.{laid, leaves}
 
 pub record Accepted (a : Answer (List ℕ)) (n : ℕ) (new : List ℕ) : Type 0 where
   pub map : List ℕ
@@ -19,7 +19,8 @@ pub record Accepted (a : Answer (List ℕ)) (n : ℕ) (new : List ℕ) : Type 0 
   pub within : n ≤ length new
   pub bytes : take n new ≡ map
 
-pub accepted : (n : ℕ) (old new : List ℕ) (a : Answer (List ℕ)) → answer n ≡ lengthOf a → new ≡ written a old → Accepted a n new
+pub accepted : (n : ℕ) (old new : List ℕ) (a : Answer (List ℕ)) → answer n ≡ told length a → new ≡ leaves laid a old → Accepted a n new
+unfolding leaves
 accepted n old new (answer s) e h =
     let l : n ≡ length s = cc in
     record {
@@ -30,6 +31,6 @@ accepted n old new (answer s) e h =
     }
 accepted n old new (refusedWith j xs) e h = let z : _≡_ {A = ℕ} 0 1 = cc in absurd (omega arith)
 
-pub declined : (j : ℕ) (xs : List ℕ) (a : Answer (List ℕ)) → refusedWith j xs ≡ lengthOf a → a ≡ refusedWith j xs
+pub declined : (j : ℕ) (xs : List ℕ) (a : Answer (List ℕ)) → refusedWith j xs ≡ told length a → a ≡ refusedWith j xs
 declined j xs (answer s) e = let z : _≡_ {A = ℕ} 0 1 = cc in absurd (omega arith)
 declined j xs (refusedWith i ys) e = cc

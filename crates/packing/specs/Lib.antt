@@ -1,2 +1,2 @@
--- Packing: the definitions that its contracts cite.
-pub mod Answers
+-- Packing after checks 1 to 3: definitions of the code's own.
+pub mod Later

@@ -1,16 +1,18 @@
 // Packing: checks 1 to 7 in the order of document 01's table, then the map.
-use crate::answers::Packed;
+use answers::Packed;
 use crossing::Found;
 use format::LONGEST;
 ghost use mathlib.Core.Path.{_≡_};
 ghost use Prim.Native.Nat.{_*_, _≤_};
 ghost use lib.ListN.{length};
-ghost use Rattle.drawing.specs.Drawing.{cells, Kind};
+ghost use Rattle.answers.specs.Means.{packedMeans};
+ghost use Rattle.answers.specs.Answer.{Kind};
+ghost use Rattle.drawing.specs.Drawing.{cells, lent};
 ghost use Rattle.drawing.specs.Checks.{LengthsFit, InRange, PassesSix};
-ghost use Rattle.drawing.specs.Laid.{lent};
 ghost use Rattle.format.specs.Bytes.{longest};
+ghost use Rattle.format.specs.Packs.{Packs};
 ghost use Rattle.checking.specs.Lent.{Blank, Kept};
-ghost use Rattle.packing.specs.Answers.{packedMeans, Packs, PacksLater};
+ghost use Rattle.packing.specs.Later.{PacksLater};
 
 // Packs a drawing into `out`. Where a check declines, `out` stays as it was.
 pub fn pack(turning: &[u16], marks: &[u8], start: usize, work: &mut [u16], out: &mut [u8]) -> Packed
@@ -30,9 +32,9 @@ pub fn pack(turning: &[u16], marks: &[u8], start: usize, work: &mut [u16], out: 
     if !checking::in_range(turning, marks, start) {
         return Packed::Declined(3);
     }
-    bits::clear(work, k);
+    lending::clear(work, k);
     let packed = checked(turning, marks, start, work, out);
-    bits::clear(work, k); // and after every answer from here on
+    lending::clear(work, k); // and after every answer from here on
     packed
 }
 

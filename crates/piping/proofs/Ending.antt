@@ -12,7 +12,7 @@ use lib.ListN.{length, drop, length-append}
 use mir.Syntax.{w64}
 use mir.Val.{toZ, ofZ, SFits}
 use mir.ValLaws.{toZ-ofZ}
-use Rattle.piping.specs.Heard.{heard}
+use Rattle.text.specs.Heard.{heard}
 
 -- a signed number is tested by its bits
 pub heard-end : (z : ℤ) → SFits w64 z → (whole cut : List ℕ) → ofZ w64 z ≡ 0 → heard z whole cut ≡ whole

@@ -3,9 +3,9 @@
 use printout::ROOM;
 ghost use mathlib.Core.Path.{_≡_};
 ghost use lib.ListN.{length};
-ghost use Rattle.drawing.specs.Laid.{laid};
-ghost use Rattle.piping.specs.Heard.{heard};
+ghost use Rattle.answers.specs.Lent.{laid};
 ghost use Rattle.text.specs.Listing.{refusedLine, placesOf};
+ghost use Rattle.text.specs.Heard.{heard};
 
 // One byte more than a text of a drawing can have by the bound `text-short` of the crate `text`: what fills it is refused.
 const LIMIT: usize = 43034;

@@ -6,16 +6,15 @@ use mathlib.Core.Path.{_≡_, refl}
 use mathlib.Core.List.{List}
 use Prim.Native.Nat.{ℕ, _<_}
 use native.Mathlib.Omega.{arith}
-use Rattle.refusals.proofs.Steps.{by-checks}
-use Rattle.drawing.specs.Session.{answer, valueOf}
+use Rattle.answers.proofs.Steps.{by-checks}
+use Rattle.answers.specs.Answer.{answer, valueOf, told, Size}
 use Rattle.format.specs.Bytes.{sizeIn}
 use Rattle.format.specs.Open.{openChecks, openRefusal, openOf}
 use Rattle.format.proofs.Passes.{opens-passes}
-use Rattle.giving.specs.Cells.{bordersGiven, pointsGiven}
 
-pub open-small : (s : List ℕ) → (valueOf (bordersGiven (openOf s)) < 65536) × (valueOf (pointsGiven (openOf s)) < 65536)
+pub open-small : (s : List ℕ) → (valueOf (told (λ (z : Size). z .m) (openOf s)) < 65536) × (valueOf (told (λ (z : Size). z .n) (openOf s)) < 65536)
 unfolding openOf openRefusal valueOf
 open-small s =
-    by-checks (λ a. (valueOf (bordersGiven a) < 65536) × (valueOf (pointsGiven a) < 65536)) (openChecks s) (answer (sizeIn s)) refl
+    by-checks (λ a. (valueOf (told (λ (z : Size). z .m) a) < 65536) × (valueOf (told (λ (z : Size). z .n) a) < 65536)) (openChecks s) (answer (sizeIn s)) refl
     (λ e. (omega (arith, opens-passes s e .m-most), omega (arith, opens-passes s e .m-most, opens-passes s e .n-most)))
     (λ k xs l. (omega arith, omega arith))

@@ -22,15 +22,19 @@ use Rattle.count.specs.Below.{pick}
 use Rattle.count.proofs.Counts.{count-le}
 use Rattle.count.proofs.Lists.{table-length, gather-length}
 use Rattle.count.proofs.Logic.{true-or-false}
-use Rattle.refusals.specs.Checks.{check}
-use Rattle.refusals.proofs.Steps.{stops-at, number-after, by-numbers, none-append, by-checks, answered-all}
+use Rattle.answers.specs.Checks.{check}
+use Rattle.answers.proofs.Steps.{stops-at, number-after, by-numbers, none-append, by-checks, answered-all}
+use Rattle.answers.specs.Answer.{Answer, answer, refusedWith, refused, numberOf, carriedBy, valueOf, told}
+use Rattle.answers.specs.declared.cases.Packed.{Packed}
+use Rattle.answers.specs.Means.{packedMeans}
+use Rattle.answers.specs.Lent.{leaves, itself}
 use Rattle.words.specs.declared.family.Family.{Family}
 use Rattle.words.specs.declared.family.Family.the-variants.{Round as round, Square as square}
 use Rattle.words.specs.Word.{sameFamily, Word}
+use Rattle.format.specs.Packs.{Packs, smallerIn, largerIn, PackReturns}
 use Rattle.bits.specs.Strings.{bytesFor}
 use Rattle.drawing.specs.Drawing.{Drawing, borders, ends}
 use Rattle.drawing.specs.Checks.{LengthsFit, lengthsFit, smallerFirst, FirstCrossing}
-use Rattle.drawing.specs.Session.{Answer, answer, refusedWith, refused, numberOf, carriedBy, valueOf}
 use Rattle.drawing.proofs.Checks.{lengths-decides}
 use Rattle.format.specs.Bytes.{sizeIn, wordIn, familyBit, closingBit, stringA, stringB, bytesOf, mapBytes}
 use Rattle.format.specs.Open.{openChecks, openRefusal}
@@ -38,12 +42,8 @@ use Rattle.format.specs.Pack.{wordOf, packedBytes, packChecks, packRefusal, pac
 use Rattle.format.proofs.Bits.{bytes-of-length}
 use Rattle.format.proofs.Passes.{opens-passes}
 use Rattle.format.proofs.Refusals.{pack-crosses}
-use Rattle.packing.specs.declared.answers.Packed.{Packed}
-use Rattle.packing.specs.Answers.{packedMeans, lengthOf, Packs}
 use Rattle.packing.proofs.Outcomes.{declined}
-use Rattle.drawing.specs.Laid.{bordersOf}
-use Rattle.giving.specs.Cells.{cellAfter}
-use Rattle.giving.specs.Desk.{smallerIn, largerIn, PackReturns, returned, Small}
+use Rattle.giving.specs.Desk.{returned, Small}
 use Rattle.pmap.proofs.Given.{cell-same}
 
 -- ---- the bytes of a drawing's map
@@ -75,17 +75,17 @@ bytes-small D fit =
     )
 
 -- ---- what packing answers
-number-length : (a : Answer (List ℕ)) → numberOf (lengthOf a) ≡ numberOf a
+number-length : (a : Answer (List ℕ)) → numberOf (told length a) ≡ numberOf a
 unfolding numberOf
 number-length (answer s) = refl
 number-length (refusedWith k xs) = refl
 
-carried-length : (a : Answer (List ℕ)) → carriedBy (lengthOf a) ≡ carriedBy a
+carried-length : (a : Answer (List ℕ)) → carriedBy (told length a) ≡ carriedBy a
 unfolding carriedBy
 carried-length (answer s) = refl
 carried-length (refusedWith k xs) = refl
 
-length-told : (a : Answer (List ℕ)) (l : ℕ) → answer l ≡ lengthOf a → (s : List ℕ) × (a ≡ answer s) × (l ≡ length s)
+length-told : (a : Answer (List ℕ)) (l : ℕ) → answer l ≡ told length a → (s : List ℕ) × (a ≡ answer s) × (l ≡ length s)
 length-told (answer s) l e = (s, refl, cc)
 length-told (refusedWith k xs) l e = let z : _≡_ {A = ℕ} 0 1 = cc in absurd (omega arith)
 
@@ -122,11 +122,11 @@ module _ (D : Drawing) (w o : ℕ) where
       ]
 
   -- what packing says
-  pack-number : (a : Answer ℕ) → a ≡ lengthOf (packOf D w o) → numberOf a ≡ packRefusal D w o
+  pack-number : (a : Answer ℕ) → a ≡ told length (packOf D w o) → numberOf a ≡ packRefusal D w o
   unfolding packOf packRefusal
   pack-number a e = ap numberOf e ∙ number-length (packOf D w o) ∙ number-after (packChecks D w o) (packedBytes D)
 
-  length-small : (l : ℕ) → answer l ≡ lengthOf (packOf D w o) → l < 65536
+  length-small : (l : ℕ) → answer l ≡ told length (packOf D w o) → l < 65536
   unfolding packOf numberOf
   length-small l e =
       let n = pack-number (answer l) e in
@@ -139,7 +139,7 @@ module _ (D : Drawing) (w o : ℕ) where
       )
 
   -- the two borders of a crossing are borders of the drawing
-  pair-small : (a b : ℕ) → refusedWith 7 (a ∷ b ∷ []) ≡ lengthOf (packOf D w o) → (a < 4096) × (b < 4096)
+  pair-small : (a b : ℕ) → refusedWith 7 (a ∷ b ∷ []) ≡ told length (packOf D w o) → (a < 4096) × (b < 4096)
   unfolding borders
   pair-small a b e =
       let c = pack-crosses D w o (a ∷ b ∷ []) .0 (declined 7 (a ∷ b ∷ []) (packOf D w o) e) in
@@ -152,12 +152,12 @@ module _ (D : Drawing) (w o : ℕ) where
       let lb = X .crossing .second-border in
       (omega (arith, fit .half, fit .most), omega (arith, fit .half, fit .most))
 
-  small : (p : Packed) → packedMeans p ≡ lengthOf (packOf D w o) → Small p
+  small : (p : Packed) → packedMeans p ≡ told length (packOf D w o) → Small p
   small (Packed.Length l) e = length-small l e
   small (Packed.Crossing a b) e = pair-small a b e
   small (Packed.Declined k) e = tt
 
-  returned-read : (p : Packed) → packedMeans p ≡ lengthOf (packOf D w o) → (r : ℕ) → r ≡ returned p → Read r (packedMeans p)
+  returned-read : (p : Packed) → packedMeans p ≡ told length (packOf D w o) → (r : ℕ) → r ≡ returned p → Read r (packedMeans p)
   unfolding numberOf carriedBy
   returned-read (Packed.Length x) e r h = record { low = omega arith; smaller = omega arith; larger = omega arith }
   returned-read (Packed.Crossing a b) e r h = let s = pair-small a b e in read-pair a b r h (s .0) (s .1)
@@ -169,7 +169,7 @@ module _ (D : Drawing) (work work' out out' : List ℕ) (p : Packed) (P : Packs 
   pub pack-small : Small p
   pack-small = small D (length work) (length out) p (P .answers)
 
-  pub pack-returns : (l l' r : ℕ) → r ≡ returned p → l' ≡ cellAfter (packedMeans p) l → PackReturns D work work' out out' l l' r
+  pub pack-returns : (l l' r : ℕ) → r ≡ returned p → l' ≡ leaves itself (packedMeans p) l → PackReturns D work work' out out' l l' r
   pack-returns l l' r h g =
       let A = packOf D (length work) (length out) in
       let R : Read r (packedMeans p) = returned-read D (length work) (length out) p (P .answers) r h in
@@ -178,25 +178,25 @@ module _ (D : Drawing) (work work' out out' : List ℕ) (p : Packed) (P : Packs 
         low = R .low ∙ ap numberOf (P .answers) ∙ number-length A;
         smaller = R .smaller ∙ ap (λ xs. getD xs 0 0) carried;
         larger = R .larger ∙ ap (λ xs. getD xs 1 0) carried;
-        cell = cell-same l' l (packedMeans p) (lengthOf A) g (P .answers);
+        cell = cell-same l' l (packedMeans p) (told length A) g (P .answers);
         leaves = P .leaves;
       }
 
 -- ---- unpacking
-number-borders : (a : Answer Drawing) → numberOf (bordersOf a) ≡ numberOf a
+number-borders : (a : Answer Drawing) → numberOf (told borders a) ≡ numberOf a
 unfolding numberOf
 number-borders (answer D) = refl
 number-borders (refusedWith k xs) = refl
 
 module _ (s : List ℕ) (t k : ℕ) where
-  pub unpack-small : (a : Answer ℕ) → a ≡ bordersOf (unpackOf s t k) → valueOf a < 65536
+  pub unpack-small : (a : Answer ℕ) → a ≡ told borders (unpackOf s t k) → valueOf a < 65536
   unfolding unpackOf openRefusal drawingOf wordIn borders valueOf
   unpack-small a e =
       rw e
-      (by-checks (λ a. valueOf (bordersOf a) < 65536)
+      (by-checks (λ a. valueOf (told borders a) < 65536)
       (openChecks s ++ (check 16 (leb (2 * sizeIn s .m) t && leb (sizeIn s .m) k) Unit ∷ [])) (answer (drawingOf (wordIn s))) refl
       (λ q. let z = none-append (openChecks s) (check 16 (leb (2 * sizeIn s .m) t && leb (sizeIn s .m) k) Unit ∷ []) refl q .0 in omega (arith, opens-passes s z .m-most, table-length (λ e. familyBit (wordIn s .letter (positionIn (wordIn s) (2 * e)) .family)) (wordIn s .size / 2)))
       (λ j xs l. omega arith))
 
-  pub unpack-status : (r : ℕ) (a : Answer ℕ) → r ≡ numberOf a → a ≡ bordersOf (unpackOf s t k) → r ≡ numberOf (unpackOf s t k)
+  pub unpack-status : (r : ℕ) (a : Answer ℕ) → r ≡ numberOf a → a ≡ told borders (unpackOf s t k) → r ≡ numberOf (unpackOf s t k)
   unpack-status r a h e = h ∙ ap numberOf e ∙ number-borders (unpackOf s t k)

@@ -9,11 +9,10 @@ use mathlib.Core.Path.{_≡_, refl, ap, _∙_}
 use mathlib.Core.List.{List}
 use Prim.Native.Nat.{ℕ, _<_}
 use borrow.Author.Needs.{needs}
-use Rattle.drawing.specs.Session.{Answer, answer, refusedWith, numberOf, valueOf, Outcome}
-use Rattle.format.specs.Bytes.{Size}
+use Rattle.answers.specs.Answer.{Answer, answer, refusedWith, numberOf, valueOf, Size, told}
+use Rattle.answers.specs.Lent.{leaves, itself}
+use Rattle.drawing.specs.Session.{Outcome}
 use Rattle.format.specs.Open.{openOf}
-use Rattle.running.specs.Runs.{placeLeft}
-use Rattle.giving.specs.Cells.{cellAfter, bordersGiven, pointsGiven}
 use Rattle.format.proofs.Small.{cross-fits, turn-fits, turn-back-fits, along-fits, point-fits, area-fits, first-fits, size-fits, neighbours-fit, joining-fits}
 use Rattle.pmap.proofs.Bounds.{open-small}
 
@@ -21,33 +20,33 @@ module _ {A : Type 0} where
   pub status-same : (r : ℕ) (a b : Answer A) → r ≡ numberOf a → a ≡ b → r ≡ numberOf b
   status-same r a b h e = h ∙ ap numberOf e
 
-  pub cell-same : (x old : A) (a b : Answer A) → x ≡ cellAfter a old → a ≡ b → x ≡ cellAfter b old
-  cell-same x old a b h e = h ∙ ap (λ y. cellAfter y old) e
+  pub cell-same : (x old : A) (a b : Answer A) → x ≡ leaves itself a old → a ≡ b → x ≡ leaves itself b old
+  cell-same x old a b h e = h ∙ ap (λ y. leaves itself y old) e
 
 pub ruleset call-all = (status-same, cell-same, cross-fits, turn-fits, turn-back-fits, along-fits, point-fits, area-fits, first-fits, size-fits, neighbours-fit, joining-fits, needs)
 
 -- ---- opening
 module _ (a b : Answer Size) (e : a ≡ b) where
-  pub borders-same : (x old : ℕ) → x ≡ cellAfter (bordersGiven a) old → x ≡ cellAfter (bordersGiven b) old
-  borders-same x old h = h ∙ ap (λ y. cellAfter (bordersGiven y) old) e
+  pub borders-same : (x old : ℕ) → x ≡ leaves itself (told (λ (z : Size). z .m) a) old → x ≡ leaves itself (told (λ (z : Size). z .m) b) old
+  borders-same x old h = h ∙ ap (λ y. leaves itself (told (λ (z : Size). z .m) y) old) e
 
-  pub points-same : (x old : ℕ) → x ≡ cellAfter (pointsGiven a) old → x ≡ cellAfter (pointsGiven b) old
-  points-same x old h = h ∙ ap (λ y. cellAfter (pointsGiven y) old) e
+  pub points-same : (x old : ℕ) → x ≡ leaves itself (told (λ (z : Size). z .n) a) old → x ≡ leaves itself (told (λ (z : Size). z .n) b) old
+  points-same x old h = h ∙ ap (λ y. leaves itself (told (λ (z : Size). z .n) y) old) e
 
 module _ (s : List ℕ) (a : Answer Size) where
-  pub borders-fit : a ≡ openOf s → valueOf (bordersGiven a) < 65536
+  pub borders-fit : a ≡ openOf s → valueOf (told (λ (z : Size). z .m) a) < 65536
   borders-fit e = rw e (open-small s .0)
 
-  pub points-fit : a ≡ openOf s → valueOf (pointsGiven a) < 65536
+  pub points-fit : a ≡ openOf s → valueOf (told (λ (z : Size). z .n) a) < 65536
   points-fit e = rw e (open-small s .1)
 
 pub ruleset open-all = (status-same, borders-same, points-same, borders-fit, points-fit, needs)
 
 -- ---- a session
-number-left : (o : Answer Outcome) → numberOf (placeLeft o) ≡ numberOf o
+number-left : (o : Answer Outcome) → numberOf (told (λ (o : Outcome). o .place) o) ≡ numberOf o
 unfolding numberOf
 number-left (answer x) = refl
 number-left (refusedWith k xs) = refl
 
-pub left-status : (r : ℕ) (a : Answer ℕ) (o : Answer Outcome) → r ≡ numberOf a → a ≡ placeLeft o → r ≡ numberOf o
+pub left-status : (r : ℕ) (a : Answer ℕ) (o : Answer Outcome) → r ≡ numberOf a → a ≡ told (λ (o : Outcome). o .place) o → r ≡ numberOf o
 left-status r a o h e = h ∙ ap numberOf e ∙ number-left o

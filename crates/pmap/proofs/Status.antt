@@ -13,22 +13,20 @@ use lib.Dec.{ltb, leb}
 use lib.Ieee.{Float}
 use lib.ListN.{length}
 use Rattle.count.specs.Below.{pick}
-use Rattle.refusals.specs.Checks.{Check, check, after, numbered}
-use Rattle.refusals.proofs.Steps.{by-checks}
+use Rattle.answers.specs.Checks.{Check, check, after, numbered}
+use Rattle.answers.proofs.Steps.{by-checks}
+use Rattle.answers.specs.Answer.{Answer, answer, refusedWith, refused, numberOf, Tells, Kind}
 use Rattle.words.specs.Brackets.{first}
 use Rattle.words.specs.declared.family.Family.the-variants.{Round as round}
 use Rattle.words.specs.Word.{seen}
-use Rattle.drawing.specs.Drawing.{Drawing, Kind}
-use Rattle.drawing.specs.Session.{Answer, answer, refusedWith, refused, numberOf, Call, Outcome}
+use Rattle.drawing.specs.Drawing.{Drawing}
+use Rattle.drawing.specs.Session.{Call, Outcome}
 use Rattle.format.specs.Bytes.{sizeIn, wordIn}
 use Rattle.format.specs.Open.{openChecks, openOf}
 use Rattle.format.specs.Calls.{moveIn, placeChecks, mapAnswer, mapSession, cellsIn, isNumber, cellChecks, firstIn, firstOf, placesIn, sizeOf, neighboursIn, neighboursOf, joinIn, joiningOf}
-use Rattle.tariff.specs.Statements.{factorChecks, factorIn}
-use Rattle.tariff.specs.Maps.{factorOf}
-use Rattle.running.specs.Codes.{callsOf}
-use Rattle.running.specs.Runs.{runChecks, ranOf}
+use Rattle.format.specs.Sessions.{callsOf, runChecks, ranOf}
+use Rattle.tariff.specs.Maps.{factorOf, factorChecks, factorIn}
 use Rattle.format.specs.Pack.{packedBytes, packChecks, packOf, drawingOf, unpackOf}
-use Rattle.giving.specs.Cells.{Tells}
 
 refused-tells : {A : Type 0} (k : ℕ) (xs : List ℕ) → (k ≡ 0 → ⊥) → Tells {A = A} (refusedWith k xs)
 unfolding numberOf

@@ -4,12 +4,12 @@ use giving::give_length;
 ghost use mathlib.Core.Path.{_≡_};
 ghost use Prim.Native.Nat.{ℕ};
 ghost use lib.ListN.{length as size};
-ghost use Rattle.drawing.specs.Session.{numberOf};
-ghost use Rattle.drawing.specs.Laid.{lent, bordersOf, turningAfter, marksAfter};
+ghost use Rattle.answers.specs.Answer.{numberOf, told};
+ghost use Rattle.answers.specs.Lent.{laid, leaves, itself};
+ghost use Rattle.drawing.specs.Drawing.{lent, borders, Drawing};
 ghost use Rattle.format.specs.Pack.{unpackOf};
 ghost use Rattle.format.specs.Suggest.{Suggests};
-ghost use Rattle.giving.specs.Cells.{cellAfter};
-ghost use Rattle.giving.specs.Desk.{PackReturns};
+ghost use Rattle.format.specs.Packs.{PackReturns};
 
 // Marks of a spanning tree go to `marks`.
 #[no_mangle]
@@ -41,13 +41,13 @@ pub extern "C" fn pmap_pack(
 pub extern "C" fn pmap_unpack(map: &[u8], turning: &mut [u16], marks: &mut [u8], m: &mut u16) -> u8
     ensures { λ r. ⌜ r ≡ numberOf (unpackOf (now (map .entry)) (size (now (turning .entry))) (size (now (marks .entry)))) ⌝ }
     ensures { λ _. ⌜ now (turning .exit)
-        ≡ turningAfter (unpackOf (now (map .entry)) (size (now (turning .entry))) (size (now (marks .entry))))
+        ≡ leaves (λ (D : Drawing). laid (D .turning)) (unpackOf (now (map .entry)) (size (now (turning .entry))) (size (now (marks .entry))))
         (now (turning .entry)) ⌝ }
     ensures { λ _. ⌜ now (marks .exit)
-        ≡ marksAfter (unpackOf (now (map .entry)) (size (now (turning .entry))) (size (now (marks .entry))))
+        ≡ leaves (λ (D : Drawing). laid (D .marks)) (unpackOf (now (map .entry)) (size (now (turning .entry))) (size (now (marks .entry))))
         (now (marks .entry)) ⌝ }
     ensures { λ _. ⌜ now (m .exit)
-        ≡ cellAfter (bordersOf (unpackOf (now (map .entry)) (size (now (turning .entry))) (size (now (marks .entry)))))
+        ≡ leaves itself (told borders (unpackOf (now (map .entry)) (size (now (turning .entry))) (size (now (marks .entry)))))
         (now (m .entry)) ⌝ }
 {
     give_borders(unpacking::unpack(map, turning, marks), m)

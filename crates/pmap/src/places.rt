@@ -2,17 +2,17 @@
 use giving::give_area;
 use giving::give_place;
 use giving::give_point;
-use opening::Place;
+use answers::Place;
 ghost use mathlib.Core.Path.{_≡_};
-ghost use Rattle.drawing.specs.Session.{numberOf};
+ghost use Rattle.answers.specs.Answer.{numberOf};
+ghost use Rattle.answers.specs.Lent.{leaves, itself};
 ghost use Rattle.format.specs.Calls.{crossOf, turnOf, turnBackOf, alongOf, pointOf, areaOf};
-ghost use Rattle.giving.specs.Cells.{cellAfter};
 
 // The place of the other end.
 #[no_mangle]
 pub extern "C" fn pmap_cross(map: &[u8], place: usize, out: &mut u16) -> u8
     ensures { λ r. ⌜ r ≡ numberOf (crossOf (now (map .entry)) place) ⌝ }
-    ensures { λ _. ⌜ now (out .exit) ≡ cellAfter (crossOf (now (map .entry)) place) (now (out .entry)) ⌝ }
+    ensures { λ _. ⌜ now (out .exit) ≡ leaves itself (crossOf (now (map .entry)) place) (now (out .entry)) ⌝ }
 {
     give_place(map::cross(map, Place(place)), out)
 }
@@ -21,7 +21,7 @@ pub extern "C" fn pmap_cross(map: &[u8], place: usize, out: &mut u16) -> u8
 #[no_mangle]
 pub extern "C" fn pmap_turn(map: &[u8], place: usize, out: &mut u16) -> u8
     ensures { λ r. ⌜ r ≡ numberOf (turnOf (now (map .entry)) place) ⌝ }
-    ensures { λ _. ⌜ now (out .exit) ≡ cellAfter (turnOf (now (map .entry)) place) (now (out .entry)) ⌝ }
+    ensures { λ _. ⌜ now (out .exit) ≡ leaves itself (turnOf (now (map .entry)) place) (now (out .entry)) ⌝ }
 {
     give_place(map::turn(map, Place(place)), out)
 }
@@ -30,7 +30,7 @@ pub extern "C" fn pmap_turn(map: &[u8], place: usize, out: &mut u16) -> u8
 #[no_mangle]
 pub extern "C" fn pmap_turn_back(map: &[u8], place: usize, out: &mut u16) -> u8
     ensures { λ r. ⌜ r ≡ numberOf (turnBackOf (now (map .entry)) place) ⌝ }
-    ensures { λ _. ⌜ now (out .exit) ≡ cellAfter (turnBackOf (now (map .entry)) place) (now (out .entry)) ⌝ }
+    ensures { λ _. ⌜ now (out .exit) ≡ leaves itself (turnBackOf (now (map .entry)) place) (now (out .entry)) ⌝ }
 {
     give_place(map::turn_back(map, Place(place)), out)
 }
@@ -39,7 +39,7 @@ pub extern "C" fn pmap_turn_back(map: &[u8], place: usize, out: &mut u16) -> u8
 #[no_mangle]
 pub extern "C" fn pmap_along(map: &[u8], place: usize, out: &mut u16) -> u8
     ensures { λ r. ⌜ r ≡ numberOf (alongOf (now (map .entry)) place) ⌝ }
-    ensures { λ _. ⌜ now (out .exit) ≡ cellAfter (alongOf (now (map .entry)) place) (now (out .entry)) ⌝ }
+    ensures { λ _. ⌜ now (out .exit) ≡ leaves itself (alongOf (now (map .entry)) place) (now (out .entry)) ⌝ }
 {
     give_place(map::along(map, Place(place)), out)
 }
@@ -48,7 +48,7 @@ pub extern "C" fn pmap_along(map: &[u8], place: usize, out: &mut u16) -> u8
 #[no_mangle]
 pub extern "C" fn pmap_point(map: &[u8], place: usize, out: &mut u16) -> u8
     ensures { λ r. ⌜ r ≡ numberOf (pointOf (now (map .entry)) place) ⌝ }
-    ensures { λ _. ⌜ now (out .exit) ≡ cellAfter (pointOf (now (map .entry)) place) (now (out .entry)) ⌝ }
+    ensures { λ _. ⌜ now (out .exit) ≡ leaves itself (pointOf (now (map .entry)) place) (now (out .entry)) ⌝ }
 {
     give_point(map::point_at(map, Place(place)), out)
 }
@@ -57,7 +57,7 @@ pub extern "C" fn pmap_point(map: &[u8], place: usize, out: &mut u16) -> u8
 #[no_mangle]
 pub extern "C" fn pmap_area(map: &[u8], place: usize, out: &mut u16) -> u8
     ensures { λ r. ⌜ r ≡ numberOf (areaOf (now (map .entry)) place) ⌝ }
-    ensures { λ _. ⌜ now (out .exit) ≡ cellAfter (areaOf (now (map .entry)) place) (now (out .entry)) ⌝ }
+    ensures { λ _. ⌜ now (out .exit) ≡ leaves itself (areaOf (now (map .entry)) place) (now (out .entry)) ⌝ }
 {
     give_area(map::area_at(map, Place(place)), out)
 }

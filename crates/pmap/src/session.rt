@@ -2,9 +2,10 @@
 use giving::give_left;
 ghost use mathlib.Core.Path.{_≡_};
 ghost use lib.ListN.{length as size};
-ghost use Rattle.drawing.specs.Session.{numberOf};
-ghost use Rattle.running.specs.Runs.{ranOf, placeLeft, statusesAfter, answersAfter};
-ghost use Rattle.giving.specs.Cells.{cellAfter};
+ghost use Rattle.answers.specs.Answer.{numberOf, told};
+ghost use Rattle.answers.specs.Lent.{laid, leaves, itself};
+ghost use Rattle.drawing.specs.Session.{Outcome};
+ghost use Rattle.format.specs.Sessions.{ranOf, statusesOf, valuesOf};
 
 // The status and the answer of each call go to the two lists, the place left at the end to a cell.
 #[no_mangle]
@@ -18,18 +19,18 @@ pub extern "C" fn pmap_session(
 ) -> u8
     ensures { λ r. ⌜ r ≡ numberOf
         (ranOf (now (map .entry)) first (now (calls .entry)) (size (now (statuses .entry))) (size (now (answers .entry)))) ⌝ }
-    ensures { λ _. ⌜ now (statuses .exit) ≡ statusesAfter
+    ensures { λ _. ⌜ now (statuses .exit) ≡ leaves (λ (o : Outcome). laid (statusesOf o))
         (ranOf (now (map .entry)) first (now (calls .entry)) (size (now (statuses .entry))) (size (now (answers .entry))))
         (now (statuses .entry)) ⌝ }
-    ensures { λ _. ⌜ now (answers .exit) ≡ answersAfter
+    ensures { λ _. ⌜ now (answers .exit) ≡ leaves (λ (o : Outcome). laid (valuesOf o))
         (ranOf (now (map .entry)) first (now (calls .entry)) (size (now (statuses .entry))) (size (now (answers .entry))))
         (now (answers .entry)) ⌝ }
-    ensures { λ _. ⌜ now (place .exit) ≡ cellAfter
-        (placeLeft (ranOf (now (map .entry)) first (now (calls .entry)) (size (now (statuses .entry))) (size (now (answers .entry)))))
+    ensures { λ _. ⌜ now (place .exit) ≡ leaves itself
+        (told (λ (o : Outcome). o .place) (ranOf (now (map .entry)) first (now (calls .entry)) (size (now (statuses .entry))) (size (now (answers .entry)))))
         (now (place .entry)) ⌝ }
 {
     give_left(
-        running::session(map, first, calls, statuses, answers),
+        sessions::session(map, first, calls, statuses, answers),
         place,
     )
 }

@@ -1,5 +1,5 @@
 // The two lists that a caller lends: what they say of an area, and whether that is allowed (18).
-use opening::Area;
+use answers::Area;
 use tariff::Factor;
 ghost use mathlib.Core.Path.{_≡_};
 ghost use Prim.Native.Nat.{_+_, _<_};

@@ -6,9 +6,9 @@
 use mathlib.Core.Path.{_≡_, sym, ap, _∙_}
 use mathlib.Core.List.{List}
 use Prim.Native.Nat.{ℕ}
-use Rattle.drawing.specs.Session.{answer}
-use Rattle.format.specs.Open.{openRefusal, opened}
-use Rattle.format.proofs.Passes.{opened-opens}
+use Rattle.answers.specs.Answer.{answer}
+use Rattle.format.specs.Open.{openRefusal, sizeFits}
+use Rattle.format.proofs.Passes.{opened-opens, opened}
 use Rattle.text.specs.Listing.{refusedLine, shown}
 use Rattle.text.proofs.Shown.{shown-line}
 use Rattle.printing.specs.Writing.{Wrote}
@@ -21,6 +21,7 @@ module _ (f : List ℕ → List ℕ) (s : List ℕ) (k : ℕ) (e : k ≡ openRef
   text-is z = ap (shown f) (opened-opens s (answer s) (sym e ∙ z))
 
   line-is : (k ≡ 0 → ⊥) → shown f (opened s (answer s)) ≡ refusedLine k
+  unfolding opened sizeFits
   line-is m = shown-line f s (λ z. m (e ∙ z)) ∙ ap refusedLine (sym e)
 
   module _ (old new : List ℕ) (r : ℕ) where

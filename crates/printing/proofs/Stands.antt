@@ -10,7 +10,7 @@ use mathlib.Core.List.{List, [], _∷_, _++_}
 use Prim.Native.Nat.{ℕ, _+_, _≤_}
 use native.Mathlib.Omega.{arith}
 use lib.ListN.{length, drop, length-append}
-use Rattle.drawing.specs.Laid.{laid}
+use Rattle.answers.specs.Lent.{laid}
 use Rattle.text.specs.Decimal.{codes, lineFeed, decimal}
 use Rattle.text.specs.Listing.{refusedLine}
 use Rattle.printing.specs.Writing.{Wrote}

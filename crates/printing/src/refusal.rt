@@ -4,7 +4,7 @@ use crate::write::put_text;
 ghost use mathlib.Core.Path.{_≡_};
 ghost use Prim.Native.Nat.{_≤_};
 ghost use lib.ListN.{length};
-ghost use Rattle.drawing.specs.Laid.{laid};
+ghost use Rattle.answers.specs.Lent.{laid};
 ghost use Rattle.text.specs.Listing.{refusedLine};
 
 // The line of refusal k. Its length.

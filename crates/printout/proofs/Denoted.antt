@@ -12,10 +12,9 @@ use Prim.Native.Nat.{ℕ, _*_, _≤_}
 use native.Mathlib.Omega.{arith}
 use lib.ListN.{length, take, drop, length-append}
 use lib.Seq.{take-at}
-use Rattle.drawing.specs.Drawing.{Drawing, borders}
-use Rattle.drawing.specs.Laid.{bordersOf, turningAfter, marksAfter}
-use Rattle.drawing.specs.Session.{Answer, answer, refusedWith, refused}
-use Rattle.drawing.specs.Laid.{lent}
+use Rattle.answers.specs.Answer.{told, Answer, answer, refusedWith, refused}
+use Rattle.answers.specs.Lent.{laid, leaves}
+use Rattle.drawing.specs.Drawing.{Drawing, borders, lent}
 use Rattle.text.specs.Input.{Denotes, readText}
 use Rattle.text.specs.Listing.{refusedLine, listed, packed, placesOf}
 use Rattle.text.proofs.Exact.{text-denotes}
@@ -29,7 +28,7 @@ pub record Denoted (s : List ℕ) (m : ℕ) (t k : List ℕ) : Type 0 where
   pub drawing : readText s ≡ answer (lent (take (2 * m) t) (take m k) 0)
 
 module _ (s t k t′ k′ : List ℕ) (m : ℕ) where
-  read-as : (a : Answer Drawing) → readText s ≡ a → answer m ≡ bordersOf a → t′ ≡ turningAfter a t → k′ ≡ marksAfter a k → Denoted s m t′ k′
+  read-as : (a : Answer Drawing) → readText s ≡ a → answer m ≡ told borders a → t′ ≡ leaves (λ (D : Drawing). laid (D .turning)) a t → k′ ≡ leaves (λ (D : Drawing). laid (D .marks)) a k → Denoted s m t′ k′
   unfolding borders
   read-as (answer D) r e ht hk =
       let N : Denotes s D = text-denotes s D r in
@@ -46,18 +45,18 @@ module _ (s t k t′ k′ : List ℕ) (m : ℕ) where
       }
   read-as (refusedWith j xs) r e ht hk = let z : _≡_ {A = ℕ} 0 1 = cc in absurd (omega arith)
 
-  pub read-denoted : answer m ≡ bordersOf (readText s) → t′ ≡ turningAfter (readText s) t → k′ ≡ marksAfter (readText s) k → Denoted s m t′ k′
+  pub read-denoted : answer m ≡ told borders (readText s) → t′ ≡ leaves (λ (D : Drawing). laid (D .turning)) (readText s) t → k′ ≡ leaves (λ (D : Drawing). laid (D .marks)) (readText s) k → Denoted s m t′ k′
   read-denoted e ht hk = read-as (readText s) refl e ht hk
 
 pub denoted-printed : (s t k : List ℕ) (m : ℕ) → Denoted s m t k → placesOf s ≡ listed (packed (answer (lent (take (2 * m) t) (take m k) 0)))
 unfolding placesOf
 denoted-printed s t k m N = ap (λ a. listed (packed a)) (N .drawing)
 
-declined-is : (k : ℕ) (a : Answer Drawing) → refused k ≡ bordersOf a → a ≡ refused k
+declined-is : (k : ℕ) (a : Answer Drawing) → refused k ≡ told borders a → a ≡ refused k
 declined-is k (answer D) e = let z : _≡_ {A = ℕ} 0 1 = cc in absurd (omega arith)
 declined-is k (refusedWith j xs) e = cc
 
-pub declined-printed : (s : List ℕ) (k : ℕ) → refused k ≡ bordersOf (readText s) → placesOf s ≡ refusedLine k
+pub declined-printed : (s : List ℕ) (k : ℕ) → refused k ≡ told borders (readText s) → placesOf s ≡ refusedLine k
 unfolding placesOf listed packed
 declined-printed s k e = ap (λ a. listed (packed a)) (declined-is k (readText s) e)
 

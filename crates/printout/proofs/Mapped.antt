@@ -15,24 +15,24 @@ use lib.ListN.{length, take, drop}
 use borrow.Author.Tests.{le-leb}
 use Rattle.count.proofs.Logic.{both}
 use Rattle.count.specs.Below.{pick}
-use Rattle.refusals.specs.Checks.{Check, after}
-use Rattle.refusals.proofs.Steps.{tests-passed, answered-all, answered-none, checked-same}
+use Rattle.answers.specs.Checks.{Check, after}
+use Rattle.answers.proofs.Steps.{tests-passed, answered-all, answered-none, checked-same}
+use Rattle.answers.specs.Answer.{Answer, answer, refusedWith, refused, told}
+use Rattle.answers.specs.Means.{packedMeans}
+use Rattle.answers.specs.Lent.{laid, leaves}
+use Rattle.answers.specs.declared.cases.Packed.{Packed}
 use Rattle.drawing.specs.Drawing.{Drawing, borders}
 use Rattle.drawing.specs.Checks.{lengthsFit}
-use Rattle.drawing.specs.Session.{Answer, answer, refusedWith, refused}
 use Rattle.drawing.proofs.Checks.{lengths-decides}
 use Rattle.format.specs.Bytes.{longest}
 use Rattle.format.specs.Open.{openRefusal}
 use Rattle.format.proofs.Passes.{opened-opens}
 use Rattle.format.specs.Pack.{roomFits, packedBytes, packChecks, packRefusal, packOf}
-use Rattle.text.specs.Listing.{refusedLine, listed, packed}
-use Rattle.packing.specs.Answers.{packedMeans, lengthOf, written}
-use Rattle.packing.specs.declared.answers.Packed.{Packed}
-use Rattle.packing.specs.declared.answers.Packed.the-variants as the-case
+use Rattle.text.specs.Listing.{refusedLine, listed, packed, printed}
+use Rattle.answers.specs.declared.cases.Packed.the-variants as the-case
 use Rattle.packing.proofs.Outcomes.{accepted, declined}
 use Rattle.agreement.proofs.Passed.{packed-opens}
 use Rattle.format.proofs.Refusals.{pack-accepts}
-use Rattle.listing.specs.Printed.{printed}
 
 module _ (D : Drawing) (work out : ℕ) (long : 12288 ≤ work) (wide : longest ≤ out) where
   room-fits : (w o : ℕ) → 6 * borders D ≤ w → longest ≤ o → roomFits D w o ≡ true
@@ -69,8 +69,8 @@ bytes-print : (s : List ℕ) → openRefusal s ≡ 0 → printed s ≡ listed (a
 unfolding printed
 bytes-print s o = ap listed (opened-opens s (answer s) o)
 
-module _ (D : Drawing) (work out : ℕ) (long : 12288 ≤ work) (wide : longest ≤ out) (r : Packed) (e : packedMeans r ≡ lengthOf (packOf D work out)) where
-  pub map-mapped : (n : ℕ) (old map : List ℕ) → r ≡ the-case.Length n → map ≡ written (packOf D work out) old → Mapped D n map
+module _ (D : Drawing) (work out : ℕ) (long : 12288 ≤ work) (wide : longest ≤ out) (r : Packed) (e : packedMeans r ≡ told length (packOf D work out)) where
+  pub map-mapped : (n : ℕ) (old map : List ℕ) → r ≡ the-case.Length n → map ≡ leaves laid (packOf D work out) old → Mapped D n map
   map-mapped n old map h w =
       let A = accepted n old map (packOf D work out) (sym (ap packedMeans h) ∙ e) w in
       record {
@@ -79,7 +79,7 @@ module _ (D : Drawing) (work out : ℕ) (long : 12288 ≤ work) (wide : longest 
             ∙ ap listed (sym (A .is) ∙ room-enough D work out long wide);
       }
 
-  refusal-prints : (k : ℕ) (xs : List ℕ) → refusedWith k xs ≡ lengthOf (packOf D work out) → listed (packed (answer D)) ≡ refusedLine k
+  refusal-prints : (k : ℕ) (xs : List ℕ) → refusedWith k xs ≡ told length (packOf D work out) → listed (packed (answer D)) ≡ refusedLine k
   unfolding listed
   refusal-prints k xs f = ap listed (sym (room-enough D work out long wide) ∙ declined k xs (packOf D work out) f)
 

@@ -3,12 +3,13 @@ use format::LONGEST;
 use format::MOST_BORDERS;
 use format::MOST_ENDS;
 use listing::ROOM;
-use packing::Packed;
-use reading::Parsed;
+use answers::Packed;
+use answers::Parsed;
 ghost use mathlib.Core.Path.{_≡_};
 ghost use lib.ListN.{length};
-ghost use Rattle.drawing.specs.Laid.{laid, lent};
-ghost use Rattle.drawing.specs.Session.{answer};
+ghost use Rattle.answers.specs.Lent.{laid};
+ghost use Rattle.answers.specs.Answer.{answer};
+ghost use Rattle.drawing.specs.Drawing.{lent};
 ghost use Rattle.text.specs.Listing.{listed, packed, placesOf};
 
 // The working list that packing asks for the most borders.

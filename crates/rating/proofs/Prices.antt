@@ -14,19 +14,19 @@ use lib.Ieee.{Float}
 use borrow.Author.Tests.{lt-ltb, le-ltb}
 use Rattle.count.specs.Below.{pick}
 use Rattle.count.proofs.Logic.{pick-yes, pick-no}
-use Rattle.drawing.specs.Drawing.{Kind}
-use Rattle.drawing.specs.Session.{Answer, answer, refused}
+use Rattle.answers.specs.Answer.{Answer, answer, refused, Kind}
 use Rattle.format.specs.Bytes.{sizeIn, wordIn}
 use Rattle.format.specs.Calls.{cellsIn, landingsIn}
 use Rattle.opening.specs.Checks.{cellRefusal}
 use Rattle.opening.proofs.Passed.{cell-passes, cell-declines, cell-answers}
 use Rattle.tariff.specs.declared.factor.Factor.{Factor}
 use Rattle.tariff.specs.declared.factor.Running.{Running}
-use Rattle.tariff.specs.Tariff.{held, factorAt, TariffFits, tariffFits, hasFactor, mean, worth, sumAcross, priced, rated}
+use Rattle.tariff.specs.Tariff.{held, factorAt, TariffFits, tariffFits, hasFactor, mean, worth, sumAcross, rated}
 use Rattle.tariff.specs.Maps.{factorOf}
 use Rattle.tariff.proofs.Lists.{tariff-decides}
 use Rattle.pricing.specs.Lists.{InLists}
 use Rattle.pricing.proofs.Laws.{not-is}
+use Rattle.rating.specs.Summed.{priced}
 
 -- ---- the mean
 module _ (r across : Running) (e : r ≡ across) where

@@ -13,11 +13,11 @@ use native.Mathlib.Omega.{arith}
 use lib.Ieee.{Float}
 use lib.ListN.{length, getD, take}
 use lib.Seq.{take-suc}
-use Rattle.drawing.specs.Drawing.{Kind}
+use Rattle.answers.specs.declared.numbers.Area.{Area}
+use Rattle.answers.specs.Answer.{Kind}
 use Rattle.format.specs.Bytes.{sizeIn, wordIn}
 use Rattle.format.specs.Calls.{cellsIn, landingsIn}
-use Rattle.opening.specs.declared.answers.Area.{Area}
-use Rattle.opening.specs.declared.answers.Cell.{Cell}
+use Rattle.opening.specs.declared.cells.Cell.{Cell}
 use Rattle.walking.specs.Positions.{Numbered}
 use Rattle.landing.specs.Landed.{Landed}
 use Rattle.landing.proofs.Gathering.{landed-range, landed-most, landed-take}

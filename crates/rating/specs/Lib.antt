@@ -1,3 +1,2 @@
 -- The factor of an area of a map: definitions of the code's own.
-pub mod Answers
 pub mod Summed

@@ -1,8 +1,8 @@
 // The factor of an area: the checks in order, then its own, held, or the mean across its sides.
-use crate::answers::FactorAnswer;
+use answers::FactorAnswer;
 use crate::sides::sum_across;
 use layout::areas;
-use opening::Area;
+use answers::Area;
 use opening::Cell;
 use opening::cell_refusal;
 use pricing::factor_in;
@@ -11,15 +11,16 @@ use pricing::lists_fit;
 use pricing::mean_of;
 use tariff::Factor;
 ghost use mathlib.Core.Path.{_≡_};
-ghost use Rattle.drawing.specs.Drawing.{Kind};
-ghost use Rattle.opening.specs.declared.answers.Cell.{Cell};
+ghost use Rattle.answers.specs.Means.{factorMeans};
+ghost use Rattle.answers.specs.Answer.{Kind};
 ghost use Rattle.format.specs.Bytes.{sizeIn, wordIn};
 ghost use Rattle.format.specs.Calls.{cellsIn, landingsIn};
+ghost use Rattle.opening.specs.declared.cells.Cell.{Cell};
 ghost use Rattle.walking.specs.Positions.{Numbered};
 ghost use Rattle.tariff.specs.declared.factor.Factor.{Factor};
-ghost use Rattle.tariff.specs.Tariff.{TariffFits, sumAcross, priced};
+ghost use Rattle.tariff.specs.Tariff.{TariffFits, sumAcross};
 ghost use Rattle.tariff.specs.Maps.{factorOf};
-ghost use Rattle.rating.specs.Answers.{factorMeans};
+ghost use Rattle.rating.specs.Summed.{priced};
 
 // The factor of an area: opening's checks, 15, 18, 19, or the number.
 pub fn factor(map: &[u8], area: Area, kinds: &[u8], values: &[f64]) -> FactorAnswer

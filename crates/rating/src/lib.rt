@@ -10,9 +10,7 @@
 // One loop along the area's walk, from its first place, crosses each side and hands on a sum and a count. Few sides are crossed by
 // walking through the bytes; where there are more, the rest is looked up in the lists of the whole map that the crate `surveying`
 // fills in one pass. The source is document 02, 4/14; the definitions that the contracts cite are those of the crate `tariff`.
-mod answers;
 mod factors;
 mod sides;
 
-pub use answers::FactorAnswer;
 pub use factors::factor;

@@ -1,16 +1,16 @@
 // Adding up the known factors across the sides of an area, in one loop over the list of the areas across.
-use bits::wide;
+use lending::wide;
 use landing::land;
-use opening::Area;
+use answers::Area;
 use pricing::add;
 use pricing::factor_in;
 use tariff::Running;
 ghost use mathlib.Core.Path.{_≡_};
 ghost use lib.ListN.{take};
-ghost use Rattle.drawing.specs.Drawing.{Kind};
-ghost use Rattle.opening.specs.declared.answers.Cell.{Cell};
+ghost use Rattle.answers.specs.Answer.{Kind};
 ghost use Rattle.format.specs.Bytes.{sizeIn, wordIn};
 ghost use Rattle.format.specs.Calls.{cellsIn, landingsIn};
+ghost use Rattle.opening.specs.declared.cells.Cell.{Cell};
 ghost use Rattle.walking.specs.Positions.{Numbered};
 ghost use Rattle.tariff.specs.Tariff.{TariffFits, sumAcross};
 ghost use Rattle.rating.specs.Summed.{Summable};

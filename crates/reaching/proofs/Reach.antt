@@ -18,12 +18,12 @@ use Rattle.count.specs.Below.{count}
 use Rattle.count.proofs.Logic.{same-or-not, true-or-false, true-not-false}
 use Rattle.count.proofs.Below.{count-same, count-all, count-none, count-zero}
 use Rattle.count.proofs.Lists.{table-length, table-getD}
+use Rattle.answers.specs.Answer.{Kind}
 use Rattle.orbits.specs.Cycles.{Permutes, leads, cycles}
 use Rattle.orbits.proofs.Low.{low-same-cycle}
-use Rattle.drawing.specs.Drawing.{Drawing, Kind, borders, ends, border, other, turn, marked, cells}
+use Rattle.drawing.specs.Drawing.{Drawing, borders, ends, border, other, turn, marked, cells, lent}
 use Rattle.drawing.specs.Checks.{Linked, here, turned, crossing, Joins}
 use Rattle.drawing.specs.Tree.{SuggestedTree}
-use Rattle.drawing.specs.Laid.{lent}
 use Rattle.drawing.proofs.Ends.{other-below, border-below}
 use Rattle.drawing.proofs.Labels.{linked-within, cycle-linked, joins-from}
 use Rattle.drawing.proofs.Cells.{cells-none, points-are}

@@ -22,9 +22,8 @@ use Rattle.count.specs.Below.{count}
 use Rattle.count.proofs.Logic.{same-or-not, true-or-false, true-not-false}
 use Rattle.count.proofs.Below.{count-le, count-one-less}
 use Rattle.orbits.proofs.Low.{low-same-cycle}
-use Rattle.drawing.specs.Drawing.{Drawing, borders, ends, border, other, marked, turn}
+use Rattle.drawing.specs.Drawing.{Drawing, borders, ends, border, other, marked, turn, lent}
 use Rattle.drawing.specs.Checks.{Linked, crossing}
-use Rattle.drawing.specs.Laid.{lent}
 use Rattle.drawing.proofs.Ends.{other-below, other-border, border-below, border-two}
 use Rattle.drawing.proofs.Labels.{linked-within, linked-trans, cycle-linked}
 use Rattle.checking.specs.Lent.{next, Turns}

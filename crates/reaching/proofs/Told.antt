@@ -13,9 +13,9 @@ use lib.Dec.{eqb}
 use lib.ListN.{length}
 use Rattle.count.specs.Below.{pick, table}
 use Rattle.count.proofs.Logic.{pick-yes, pick-no, true-not-false}
-use Rattle.drawing.specs.Drawing.{Kind, isMarked, everyBorder, cells}
+use Rattle.answers.specs.Answer.{Kind}
+use Rattle.drawing.specs.Drawing.{isMarked, everyBorder, cells, lent}
 use Rattle.drawing.specs.Checks.{joined, connected}
-use Rattle.drawing.specs.Laid.{lent}
 use Rattle.drawing.proofs.Labels.{joins-decides}
 use Rattle.checking.specs.Lent.{Turns}
 use Rattle.checking.proofs.Laws.{turns-permute}

@@ -17,11 +17,11 @@ use Prim.Native.Nat.{ℕ, suc, _+_, _*_, _<_, _≤_}
 use lib.ListN.{length, getD}
 use lib.Dec.{eqb}
 use Rattle.count.specs.Below.{Decides, count, table}
+use Rattle.answers.specs.Answer.{Kind}
 use Rattle.orbits.specs.Cycles.{leads}
-use Rattle.drawing.specs.Drawing.{Drawing, Kind, border, other, marked, cells}
+use Rattle.drawing.specs.Drawing.{Drawing, border, other, marked, cells, lent}
 use Rattle.drawing.specs.Checks.{Linked, Joins, connected}
 use Rattle.drawing.specs.Tree.{SuggestedTree}
-use Rattle.drawing.specs.Laid.{lent}
 use Rattle.checking.specs.Lent.{next, Kept}
 use Rattle.reaching.specs.declared.search.Borders.{Borders}
 use Rattle.reaching.specs.declared.search.Borders.the-variants as the-set

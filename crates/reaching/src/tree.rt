@@ -5,9 +5,9 @@ ghost use mathlib.Core.Path.{_≡_};
 ghost use Prim.Native.Nat.{ℕ, _+_, _*_};
 ghost use lib.ListN.{length, getD};
 ghost use Rattle.count.specs.Below.{pick, table};
-ghost use Rattle.drawing.specs.Drawing.{Kind, cells};
+ghost use Rattle.answers.specs.Answer.{Kind};
+ghost use Rattle.drawing.specs.Drawing.{cells, lent};
 ghost use Rattle.drawing.specs.Checks.{joined};
-ghost use Rattle.drawing.specs.Laid.{lent};
 ghost use Rattle.checking.specs.Lent.{Turns, Blank, Kept};
 ghost use Rattle.reaching.specs.Reaching.{MarksAt, FindsTree};
 
@@ -22,7 +22,7 @@ pub fn joined_points(turning: &[u16], marks: &[u8], work: &mut [u16]) -> usize
 {
     let ends = turning.len();
     let reached = spread(turning, Borders::Marked, marks, work);
-    bits::clear(work, 3 * ends);
+    lending::clear(work, 3 * ends);
     if reached.ends != ends {
         return 0;
     }
@@ -38,7 +38,7 @@ pub fn find_tree(turning: &[u16], marks: &mut [u8], work: &mut [u16]) -> bool
     ensures { λ _. ⌜ now (work .exit) ≡ now (work .entry) ⌝ }
 {
     let joins = mark_tree(turning, marks, work);
-    bits::clear(work, 3 * turning.len());
+    lending::clear(work, 3 * turning.len());
     joins
 }
 

@@ -9,19 +9,19 @@ use Prim.Native.Nat.{ℕ, _*_, _≤_}
 use native.Mathlib.Omega.{arith}
 use lib.ListN.{length, take, drop}
 use lib.Seq.{take-at}
+use Rattle.answers.specs.Answer.{told, Answer, answer, refusedWith, refused}
+use Rattle.answers.specs.Lent.{laid, leaves}
 use Rattle.drawing.specs.Drawing.{Drawing, borders}
-use Rattle.drawing.specs.Laid.{bordersOf, turningAfter, marksAfter}
-use Rattle.drawing.specs.Session.{Answer, answer, refusedWith, refused}
 use Rattle.text.specs.Input.{readText}
 use Rattle.text.proofs.Exact.{text-denotes, refuses-17}
 
-pub parsed-lists : (s t k t′ k′ : List ℕ) (m : ℕ) → answer m ≡ bordersOf (readText s)
-    → t′ ≡ turningAfter (readText s) t → k′ ≡ marksAfter (readText s) k
+pub parsed-lists : (s t k t′ k′ : List ℕ) (m : ℕ) → answer m ≡ told borders (readText s)
+    → t′ ≡ leaves (λ (D : Drawing). laid (D .turning)) (readText s) t → k′ ≡ leaves (λ (D : Drawing). laid (D .marks)) (readText s) k
     → (m ≤ 2048) × (readText s ≡ answer (record { turning = take (2 * m) t′; marks = take m k′; start = 0 }))
-unfolding borders
+unfolding borders leaves
 parsed-lists s t k t′ k′ m = of-answer (readText s) refl
   where
-    of-answer : (a : Answer Drawing) → readText s ≡ a → answer m ≡ bordersOf a → t′ ≡ turningAfter a t → k′ ≡ marksAfter a k
+    of-answer : (a : Answer Drawing) → readText s ≡ a → answer m ≡ told borders a → t′ ≡ leaves (λ (D : Drawing). laid (D .turning)) a t → k′ ≡ leaves (λ (D : Drawing). laid (D .marks)) a k
         → (m ≤ 2048) × (readText s ≡ answer (record { turning = take (2 * m) t′; marks = take m k′; start = 0 }))
     of-answer (refusedWith x xs) q c ht hk = let z : _≡_ {A = ℕ} 0 1 = cc in absurd (omega arith)
     of-answer (answer D) q c ht hk =
@@ -32,10 +32,10 @@ parsed-lists s t k t′ k′ m = of-answer (readText s) refl
         let ke : take m k′ ≡ D .marks = ap (take m) hk ∙ take-at (D .marks) (drop (length (D .marks)) k) m (sym e) in
         (omega (arith, d .few), q ∙ ap answer (λ i. record { turning = sym te i; marks = sym ke i; start = d .start i }))
 
-pub parsed-declined : (s : List ℕ) (x : ℕ) → refused x ≡ bordersOf (readText s) → (x ≡ 17) × (readText s ≡ refused 17)
+pub parsed-declined : (s : List ℕ) (x : ℕ) → refused x ≡ told borders (readText s) → (x ≡ 17) × (readText s ≡ refused 17)
 parsed-declined s x = of-answer (readText s) refl
   where
-    of-answer : (a : Answer Drawing) → readText s ≡ a → refused x ≡ bordersOf a → (x ≡ 17) × (readText s ≡ refused 17)
+    of-answer : (a : Answer Drawing) → readText s ≡ a → refused x ≡ told borders a → (x ≡ 17) × (readText s ≡ refused 17)
     of-answer (answer D) q c = let z : _≡_ {A = ℕ} 0 1 = cc in absurd (omega arith)
     of-answer (refusedWith y xs) q c =
         let n : xs ≡ [] = cc in

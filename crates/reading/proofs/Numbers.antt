@@ -26,8 +26,8 @@ use Rattle.count.proofs.Logic.{lt-or-ge, true-or-false, not-both, pick-yes, pic
 use Rattle.text.specs.Decimal.{zeroByte, isDigit, Read, readDigits, readNumber}
 use Rattle.text.specs.Input.{afterPrefix, with, readField}
 use Rattle.text.proofs.Decimal.{decides-digit, digitFirst, digits-on, digits-stop, number-zero, number-none, number-on}
-use Rattle.reading.specs.declared.answers.Field.{Field}
 use Rattle.reading.specs.Found.{fieldMeans, digitOf, within, readWithin}
+use Rattle.reading.specs.declared.parts.Field.{Field}
 
 pub byte-on : (d : ℕ) (s : List ℕ) (i : ℕ) → i < length s → drop i s ≡ getD s i d ∷ drop (i + 1) s
 byte-on d s i h = let o : i + 1 ≡ suc i = omega arith in rw o (drop-cons s i d h)

@@ -17,14 +17,14 @@ use native.Mathlib.Omega.{arith}
 use lib.ListN.{length, getD, set, drop, length-set, drop-of-length-le}
 use lib.Seq.{sets, sets-eq}
 use Rattle.count.proofs.Logic.{same-or-not}
-use Rattle.drawing.specs.Drawing.{borders}
-use Rattle.drawing.specs.Laid.{bordersOf, laid, turningAfter, marksAfter}
-use Rattle.drawing.specs.Session.{Answer, answer, refused}
+use Rattle.answers.specs.Answer.{told, Answer, answer, refused}
+use Rattle.answers.specs.Lent.{laid, leaves}
+use Rattle.drawing.specs.Drawing.{borders, Drawing}
 use Rattle.text.specs.Input.{Line, readLine, Rows, addRow, readLines, drawingOr17}
 use Rattle.text.proofs.Exact.{lines-end, lines-step, some-row, rows-read}
-use Rattle.reading.specs.declared.answers.Row.{Row}
 use Rattle.reading.specs.Found.{rowMeans}
 use Rattle.reading.proofs.Numbers.{byte-on}
+use Rattle.reading.specs.declared.parts.Row.{Row}
 
 -- ---- a line of the text
 
@@ -63,7 +63,7 @@ abbrev pub countFrom : ℕ → Option Rows → Answer ℕ
 countFrom e none = refused 17
 countFrom e (some t) = answer (e + length (t .marks))
 
-count-all : (o : Option Rows) → countFrom 0 o ≡ bordersOf (drawingOr17 o)
+count-all : (o : Option Rows) → countFrom 0 o ≡ told borders (drawingOr17 o)
 unfolding borders
 count-all none = refl
 count-all (some t) = ap answer (omega arith)
@@ -75,7 +75,7 @@ count-row e l (some t) = ap answer (omega arith)
 pub record Counting (s : List ℕ) (at next e : ℕ) : Type 0 where
   pub left : ℕ
   pub all : left + e ≡ 2048
-  pub same : countFrom e (readLines left e (drop next s)) ≡ bordersOf (drawingOr17 (readLines 2048 0 (drop at s)))
+  pub same : countFrom e (readLines left e (drop next s)) ≡ told borders (drawingOr17 (readLines 2048 0 (drop at s)))
 
 module _ (s : List ℕ) (at : ℕ) where
   pub counting-start : Counting s at at 0
@@ -83,7 +83,7 @@ module _ (s : List ℕ) (at : ℕ) where
 
   module _ (next e : ℕ) (C : Counting s at next e) where
     -- what the rest of the text decides
-    rest : (o : Option Rows) → readLines (C .left) e (drop next s) ≡ o → countFrom e o ≡ bordersOf (drawingOr17 (readLines 2048 0 (drop at s)))
+    rest : (o : Option Rows) → readLines (C .left) e (drop next s) ≡ o → countFrom e o ≡ told borders (drawingOr17 (readLines 2048 0 (drop at s)))
     rest o q = ap (countFrom e) (sym q) ∙ C .same
 
     pub counting-more : e < 2048 → (a b v after : ℕ) → rowMeans s (Row.At a b v after) ≡ readLine e (drop next s) → Counting s at after (e + 1)
@@ -98,14 +98,14 @@ module _ (s : List ℕ) (at : ℕ) where
           same = sym (count-row e l o) ∙ rest (addRow l o) (ap (λ k. readLines k e (drop next s)) f ∙ lines-more s next e n a b v after q);
         }
 
-    pub counting-full : next < length s → 2048 ≤ e → refused 17 ≡ bordersOf (drawingOr17 (readLines 2048 0 (drop at s)))
+    pub counting-full : next < length s → 2048 ≤ e → refused 17 ≡ told borders (drawingOr17 (readLines 2048 0 (drop at s)))
     counting-full h m = rest none (lines-over s next e (C .left) h (omega (arith, C .all)))
 
     pub counting-missing : next < length s → rowMeans s Row.Missing ≡ readLine e (drop next s)
-        → refused 17 ≡ bordersOf (drawingOr17 (readLines 2048 0 (drop at s)))
+        → refused 17 ≡ told borders (drawingOr17 (readLines 2048 0 (drop at s)))
     counting-missing h q = rest none (lines-missing s next e (C .left) h q)
 
-    pub counting-end : length s ≤ next → answer e ≡ bordersOf (drawingOr17 (readLines 2048 0 (drop at s)))
+    pub counting-end : length s ≤ next → answer e ≡ told borders (drawingOr17 (readLines 2048 0 (drop at s)))
     counting-end h = ap answer (omega arith) ∙ rest (some (record { turning = []; marks = [] })) (lines-done s next e (C .left) h)
 
 -- ---- the second pass
@@ -117,8 +117,8 @@ pub record Writing (s : List ℕ) (at : ℕ) (t₀ k₀ : List ℕ) (next e : �
   pub reads : readLines left e (drop next s) ≡ some rows
   pub long-turning : length t ≡ 4096
   pub long-marks : length k ≡ 2048
-  pub turning : sets t (2 * e) (rows .turning) ≡ turningAfter (drawingOr17 (readLines 2048 0 (drop at s))) t₀
-  pub marks : sets k e (rows .marks) ≡ marksAfter (drawingOr17 (readLines 2048 0 (drop at s))) k₀
+  pub turning : sets t (2 * e) (rows .turning) ≡ leaves (λ (D : Drawing). laid (D .turning)) (drawingOr17 (readLines 2048 0 (drop at s))) t₀
+  pub marks : sets k e (rows .marks) ≡ leaves (λ (D : Drawing). laid (D .marks)) (drawingOr17 (readLines 2048 0 (drop at s))) k₀
 
 sets-laid : (new old : List ℕ) → length new ≤ length old → sets old 0 new ≡ laid new old
 sets-laid new old h = let z : 0 + length new ≡ length new = omega arith in sets-eq new old 0 (omega arith) ∙ ap (λ k. new ++ drop k old) z
@@ -129,6 +129,7 @@ some-of (some t) n = (t, refl)
 
 module _ (s : List ℕ) (at : ℕ) (t₀ k₀ : List ℕ) where
   pub writing-start : (readLines 2048 0 (drop at s) ≡ none → ⊥) → length t₀ ≡ 4096 → length k₀ ≡ 2048 → Writing s at t₀ k₀ at 0 t₀ k₀
+  unfolding leaves
   writing-start n ht hk =
       let r = some-of (readLines 2048 0 (drop at s)) n in
       let W = rows-read 2048 0 (drop at s) (r .0) (r .1) .1 in
@@ -139,8 +140,8 @@ module _ (s : List ℕ) (at : ℕ) (t₀ k₀ : List ℕ) where
         reads = r .1;
         long-turning = ht;
         long-marks = hk;
-        turning = sets-laid (r .0 .turning) t₀ (omega (arith, W .half, W .few)) ∙ sym (ap (λ o. turningAfter (drawingOr17 o) t₀) (r .1));
-        marks = sets-laid (r .0 .marks) k₀ (omega (arith, W .few)) ∙ sym (ap (λ o. marksAfter (drawingOr17 o) k₀) (r .1));
+        turning = sets-laid (r .0 .turning) t₀ (omega (arith, W .half, W .few)) ∙ sym (ap (λ o. leaves (λ (D : Drawing). laid (D .turning)) (drawingOr17 o) t₀) (r .1));
+        marks = sets-laid (r .0 .marks) k₀ (omega (arith, W .few)) ∙ sym (ap (λ o. leaves (λ (D : Drawing). laid (D .marks)) (drawingOr17 o) k₀) (r .1));
       }
 
   module _ (next e : ℕ) (t k : List ℕ) (W : Writing s at t₀ k₀ next e t k) where
@@ -178,7 +179,7 @@ module _ (s : List ℕ) (at : ℕ) (t₀ k₀ : List ℕ) where
         })
 
     pub writing-end : length s ≤ next
-        → (t ≡ turningAfter (drawingOr17 (readLines 2048 0 (drop at s))) t₀) × (k ≡ marksAfter (drawingOr17 (readLines 2048 0 (drop at s))) k₀)
+        → (t ≡ leaves (λ (D : Drawing). laid (D .turning)) (drawingOr17 (readLines 2048 0 (drop at s))) t₀) × (k ≡ leaves (λ (D : Drawing). laid (D .marks)) (drawingOr17 (readLines 2048 0 (drop at s))) k₀)
     writing-end h =
         let e₀ : record { turning = []; marks = [] } ≡ W .rows
         = Option·some-injective (record { turning = []; marks = [] }) (W .rows) (sym (lines-done s next e (W .left) h) ∙ W .reads) in (

@@ -20,10 +20,10 @@ use Rattle.count.specs.Below.{pick}
 use Rattle.text.specs.Decimal.{space, lineFeed, Read}
 use Rattle.text.specs.Input.{afterPrefix, with, readField, Line, readLine}
 use Rattle.text.proofs.Lines.{field-read}
-use Rattle.reading.specs.declared.answers.Field.{Field}
-use Rattle.reading.specs.declared.answers.Row.{Row}
 use Rattle.reading.specs.Found.{fieldMeans, rowMeans, readEntries}
 use Rattle.reading.proofs.Numbers.{byte-on}
+use Rattle.reading.specs.declared.parts.Field.{Field}
+use Rattle.reading.specs.declared.parts.Row.{Row}
 
 pub field-small : (s t : List ℕ) (most end value next : ℕ) → fieldMeans s (Field.At value next) ≡ readField most end t → value ≤ most
 field-small s t most end value next e = field-read most end t (record { value = value; rest = drop next s }) (sym e) .small

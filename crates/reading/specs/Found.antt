@@ -15,8 +15,8 @@ use lib.ListN.{drop}
 use Rattle.count.specs.Below.{pick}
 use Rattle.text.specs.Decimal.{space, lineFeed, zeroByte, isDigit, Read, readNumber}
 use Rattle.text.specs.Input.{with, readField, Line}
-use Rattle.reading.specs.declared.answers.Field.{Field}
-use Rattle.reading.specs.declared.answers.Row.{Row}
+use Rattle.reading.specs.declared.parts.Field.{Field}
+use Rattle.reading.specs.declared.parts.Row.{Row}
 
 abbrev pub fieldMeans : List ℕ → Field → Option Read
 fieldMeans s (Field.At value next) = some (record { value = value; rest = drop next s })

@@ -1,3 +1,2 @@
--- Reading the text of a drawing: what an answer means, and what the parts of a line are.
-pub mod Answers
+-- Reading the text of a drawing: what the parts of a line are.
 pub mod Found

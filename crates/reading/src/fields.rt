@@ -1,5 +1,5 @@
 // Numbers in the text.
-use crate::answers::Field;
+use crate::parts::Field;
 ghost use mathlib.Core.Path.{_≡_};
 ghost use Prim.Native.Nat.{_≤_};
 ghost use lib.ListN.{length, getD, drop};

@@ -9,12 +9,10 @@
 // The text is read twice, line by line, once to see that all of it is well formed and once to write.
 //
 // The source is document 01, "Listing", and its table, row 17. What a text denotes is defined in the
-// crate `text`, and what the lists hold in the crate `drawing`, specs/Laid.antt; specs/ says what an
-// answer means.
-mod answers;
+// crate `text`; the crate `answers` says what an answer means, and what the lists hold after it.
 mod fields;
 mod lines;
 mod lists;
+mod parts;
 
-pub use answers::Parsed;
 pub use lists::parse;

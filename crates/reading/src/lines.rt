@@ -1,6 +1,6 @@
 // The lines of the text.
-use crate::answers::Field;
-use crate::answers::Row;
+use crate::parts::Field;
+use crate::parts::Row;
 use crate::fields::field;
 ghost use mathlib.Core.Path.{_≡_};
 ghost use mathlib.Core.Option.{some, none};

@@ -1,6 +1,6 @@
 // Reading the whole text: one pass to count its borders, one to write the lists.
-use crate::answers::Parsed;
-use crate::answers::Row;
+use answers::Parsed;
+use crate::parts::Row;
 use crate::lines::begins;
 use crate::lines::line;
 use format::MOST_BORDERS;
@@ -8,19 +8,20 @@ use format::MOST_ENDS;
 ghost use mathlib.Core.Path.{_≡_};
 ghost use mathlib.Core.Option.{none};
 ghost use lib.ListN.{length, drop};
-ghost use Rattle.drawing.specs.Drawing.{mostBorders, mostEnds};
-ghost use Rattle.drawing.specs.Laid.{bordersOf, turningAfter, marksAfter};
+ghost use Rattle.answers.specs.Answer.{told};
+ghost use Rattle.answers.specs.Lent.{laid, leaves};
+ghost use Rattle.answers.specs.Means.{parsedMeans};
+ghost use Rattle.drawing.specs.Drawing.{mostBorders, mostEnds, borders, Drawing};
 ghost use Rattle.text.specs.Input.{drawingOr17, readLines, readText};
-ghost use Rattle.reading.specs.Answers.{parsedMeans};
 
 // The line of names has 25 bytes.
 const NAMES_LENGTH: usize = 25;
 
 // Writes the drawing of the text and answers m, or declines with 17.
 pub fn parse(text: &[u8], turning: &mut [u16; MOST_ENDS], marks: &mut [u8; MOST_BORDERS]) -> Parsed
-    ensures { λ r. ⌜ parsedMeans r ≡ bordersOf (readText (now (text .entry))) ⌝ }
-    ensures { λ _. ⌜ now (turning .exit) ≡ turningAfter (readText (now (text .entry))) (now (turning .entry)) ⌝ }
-    ensures { λ _. ⌜ now (marks .exit) ≡ marksAfter (readText (now (text .entry))) (now (marks .entry)) ⌝ }
+    ensures { λ r. ⌜ parsedMeans r ≡ told borders (readText (now (text .entry))) ⌝ }
+    ensures { λ _. ⌜ now (turning .exit) ≡ leaves (λ (D : Drawing). laid (D .turning)) (readText (now (text .entry))) (now (turning .entry)) ⌝ }
+    ensures { λ _. ⌜ now (marks .exit) ≡ leaves (λ (D : Drawing). laid (D .marks)) (readText (now (text .entry))) (now (marks .entry)) ⌝ }
 {
     if !begins(text, b"border first second mark\n") {
         return Parsed::Declined(17);
@@ -34,7 +35,7 @@ pub fn parse(text: &[u8], turning: &mut [u16; MOST_ENDS], marks: &mut [u8; MOST_
 
 // How many lines of borders there are from a position to the end of the text.
 fn count_lines(text: &[u8], at: usize) -> Parsed
-    ensures { λ r. ⌜ parsedMeans r ≡ bordersOf (drawingOr17 (readLines mostBorders 0 (drop at (now (text .entry))))) ⌝ }
+    ensures { λ r. ⌜ parsedMeans r ≡ told borders (drawingOr17 (readLines mostBorders 0 (drop at (now (text .entry))))) ⌝ }
 {
     let mut next = at;
     let mut e = 0;
@@ -58,9 +59,9 @@ fn write_lines(text: &[u8], at: usize, turning: &mut [u16], marks: &mut [u8])
         × (length (now turning) ≡ mostEnds)
         × (length (now marks) ≡ mostBorders) ⌝ }
     ensures { λ _. ⌜ now (turning .exit)
-        ≡ turningAfter (drawingOr17 (readLines mostBorders 0 (drop at (now (text .entry))))) (now (turning .entry)) ⌝ }
+        ≡ leaves (λ (D : Drawing). laid (D .turning)) (drawingOr17 (readLines mostBorders 0 (drop at (now (text .entry))))) (now (turning .entry)) ⌝ }
     ensures { λ _. ⌜ now (marks .exit)
-        ≡ marksAfter (drawingOr17 (readLines mostBorders 0 (drop at (now (text .entry))))) (now (marks .entry)) ⌝ }
+        ≡ leaves (λ (D : Drawing). laid (D .marks)) (drawingOr17 (readLines mostBorders 0 (drop at (now (text .entry))))) (now (marks .entry)) ⌝ }
 {
     let mut next = at;
     let mut e = 0;

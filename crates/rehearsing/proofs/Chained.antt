@@ -9,21 +9,24 @@ use mathlib.Core.Path.{_≡_, sym, ap, _∙_}
 use mathlib.Core.List.{List, [], _∷_}
 use Prim.Native.Nat.{ℕ, _≤_}
 use lib.ListN.{length, take}
+use Rattle.answers.specs.Answer.{Answer, answer, refusedWith, told}
+use Rattle.answers.specs.Means.{packedMeans, ranMeans}
+use Rattle.answers.specs.declared.cases.Packed.{Packed}
+use Rattle.answers.specs.Checks.{after, checked}
+use Rattle.answers.specs.Lent.{laid, leaves}
+use Rattle.answers.specs.declared.cases.Ran.{Ran}
 use Rattle.drawing.specs.Drawing.{Drawing}
-use Rattle.drawing.specs.Session.{Answer, answer, refusedWith, Outcome}
+use Rattle.drawing.specs.Session.{Outcome}
 use Rattle.format.specs.Pack.{packOf}
-use Rattle.packing.specs.Answers.{packedMeans, Packs}
+use Rattle.format.specs.Packs.{Packs}
+use Rattle.format.specs.Sessions.{callsOf, runChecks, ranOf, statusesOf, valuesOf}
+use Rattle.demands.specs.Rehearsal.{bookRanOf, rehearsalOf, Lists, rehearsed, Rehearses}
 use Rattle.packing.proofs.Outcomes.{Accepted, accepted, declined}
-use Rattle.packing.specs.declared.answers.Packed.{Packed}
-use Rattle.packing.specs.declared.answers.Packed.the-variants as packed
-use Rattle.running.specs.Codes.{callsOf}
-use Rattle.running.specs.Runs.{runOf, ranOf, placeLeft, statusesAfter, answersAfter, ranMeans}
-use Rattle.running.specs.declared.runs.Ran.{Ran}
-use Rattle.running.proofs.Checked.{ran-opens}
+use Rattle.answers.specs.declared.cases.Packed.the-variants as packed
+use Rattle.sessions.proofs.Checked.{ran-opens}
 use Rattle.demands.specs.Statements.{Agrees}
 use Rattle.demands.proofs.Demands.{demand-3}
-use Rattle.rehearsing.specs.Answers.{bookRanOf, afterPacking, rehearsalOf, Lists, rehearsed, Rehearses}
-use Rattle.rehearsing.specs.declared.chain.Rehearsed.the-variants as the-case
+use Rattle.answers.specs.declared.cases.Rehearsed.the-variants as the-case
 
 pub packed-session : (D : Drawing) (w o : ℕ) (s : List ℕ) → packOf D w o ≡ answer s
     → (i : ℕ) (ks : List ℕ) (k l : ℕ) → ranOf s i ks k l ≡ bookRanOf D i ks k l
@@ -56,7 +59,7 @@ module _ {D : Drawing} {old : Lists} {work out : List ℕ} {r : Packed} (P : Pac
     ran n = ranOf (take n out) first ks (length (old .statuses)) (length (old .answers))
 
     pub session-rehearsed : (n : ℕ) → r ≡ packed.Length n → (x : Ran) (st an : List ℕ)
-        → ranMeans x ≡ placeLeft (ran n) → st ≡ statusesAfter (ran n) (old .statuses) → an ≡ answersAfter (ran n) (old .answers)
+        → ranMeans x ≡ told (λ (o : Outcome). o .place) (ran n) → st ≡ leaves (λ (o : Outcome). laid (statusesOf o)) (ran n) (old .statuses) → an ≡ leaves (λ (o : Outcome). laid (valuesOf o)) (ran n) (old .answers)
         → Rehearses D first ks (the-case.Session n x) old (record { work = work; out = out; statuses = st; answers = an })
     unfolding rehearsalOf
     session-rehearsed n e x st an hx hs ha =
@@ -67,9 +70,9 @@ module _ {D : Drawing} {old : Lists} {work out : List ℕ} {r : Packed} (P : Pac
         let is : ran n ≡ rehearsed D first ks old = runs ∙ sym (ap (λ a. afterPacking a book) (A .is)) in
         record {
           packs = rw (ap packedMeans e) at (P .packs);
-          means = hx ∙ ap placeLeft is;
-          statuses = hs ∙ ap (λ a. statusesAfter a (old .statuses)) is;
-          answers = ha ∙ ap (λ a. answersAfter a (old .answers)) is;
+          means = hx ∙ ap (told (λ (o : Outcome). o .place)) is;
+          statuses = hs ∙ ap (λ a. leaves (λ (o : Outcome). laid (statusesOf o)) a (old .statuses)) is;
+          answers = ha ∙ ap (λ a. leaves (λ (o : Outcome). laid (valuesOf o)) a (old .answers)) is;
         }
 
     refused-rehearsed : (j : ℕ) (xs : List ℕ) → packedMeans r ≡ refusedWith j xs
@@ -80,9 +83,9 @@ module _ {D : Drawing} {old : Lists} {work out : List ℕ} {r : Packed} (P : Pac
         = sym (ap (λ a. afterPacking a book) (declined j xs packing (sym e ∙ P .packs .answers))) in
         record {
           packs = P .packs;
-          means = e ∙ ap placeLeft is;
-          statuses = ap (λ a. statusesAfter a (old .statuses)) is;
-          answers = ap (λ a. answersAfter a (old .answers)) is;
+          means = e ∙ ap (told (λ (o : Outcome). o .place)) is;
+          statuses = ap (λ a. leaves (λ (o : Outcome). laid (statusesOf o)) a (old .statuses)) is;
+          answers = ap (λ a. leaves (λ (o : Outcome). laid (valuesOf o)) a (old .answers)) is;
         }
 
     pub crossing-rehearsed : (a b : ℕ) → r ≡ packed.Crossing a b

@@ -1,14 +1,8 @@
+ghost use Rattle.drawing.specs.Drawing.{lent};
+ghost use Rattle.demands.specs.Rehearsal.{Rehearses};
 // Packing, then a session on what was packed.
-use packing::Packed;
-use running::Ran;
-ghost use Rattle.drawing.specs.Laid.{lent};
-ghost use Rattle.rehearsing.specs.Answers.{Rehearses};
-
-// Why there is no map, or the map's length and what the session on it answers.
-pub enum Rehearsed {
-    NotPacked(Packed),
-    Session(usize, Ran),
-}
+use answers::Packed;
+use answers::Rehearsed;
 
 // Packs the drawing into `out`, then runs the calls on the map, from the first number on.
 pub fn rehearse(
@@ -29,7 +23,7 @@ pub fn rehearse(
     let packed = packing::pack(turning, marks, start, work, out);
     match packed {
         Packed::Length(n) => {
-            let ran = running::session(&out[..n], first, calls, statuses, answers);
+            let ran = sessions::session(&out[..n], first, calls, statuses, answers);
             Rehearsed::Session(n, ran)
         }
         Packed::Crossing(_, _) => Rehearsed::NotPacked(packed),

@@ -13,5 +13,4 @@
 // the end. That the session on the map is the book's is demand 3, of the crate `demands`.
 mod chain;
 
-pub use chain::Rehearsed;
 pub use chain::rehearse;

@@ -23,6 +23,7 @@ use borrow.Author.Tests.{eq-eqb, ne-eqb}
 use Rattle.count.proofs.Logic.{same-or-not, true-or-false, pick-yes, pick-no}
 use Rattle.count.proofs.Below.{count-zero, find-same}
 use Rattle.count.proofs.Lists.{table-length, table-getD}
+use Rattle.answers.specs.Answer.{Kind}
 use Rattle.orbits.specs.Cycles.{iter, Permutes, cycles}
 use Rattle.orbits.proofs.Conjugate.{conjugate-permutes, conjugate-cycles}
 use Rattle.words.specs.Brackets.{Balanced, isOpens, mate, next, step}
@@ -33,7 +34,7 @@ use Rattle.words.proofs.Mate.{mate-below, mate-involutive}
 use Rattle.words.proofs.Step.{next-plain, next-last, step-permutes}
 use Rattle.words.proofs.Numbers.{openings}
 use Rattle.words.proofs.Points.{cycles-step}
-use Rattle.drawing.specs.Drawing.{Kind, borders, ends, border, turn, isMarked, over, walk, around, cells, endAt, positionOf}
+use Rattle.drawing.specs.Drawing.{borders, ends, border, turn, isMarked, over, walk, around, cells, endAt, positionOf}
 use Rattle.drawing.proofs.Ends.{over-yes, over-no}
 use Rattle.tours.specs.Tour.{MeetsAll}
 use Rattle.format.specs.Bytes.{familyBit}

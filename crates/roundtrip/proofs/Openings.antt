@@ -11,13 +11,13 @@ use Prim.Native.Nat.{ℕ, _+_, _-_, _*_}
 use native.Mathlib.Omega.{arith}
 use Rattle.count.specs.Below.{count}
 use Rattle.count.proofs.Below.{count-same, count-split}
+use Rattle.answers.specs.Answer.{Kind}
 use Rattle.words.specs.Brackets.{isOpens, Balanced}
 use Rattle.words.specs.declared.family.Family.{Family}
 use Rattle.words.specs.declared.family.Family.the-variants.{Round as round, Square as square}
 use Rattle.words.specs.Word.{sameFamily, Word, seen}
 use Rattle.words.proofs.Numbers.{openings}
 use Rattle.words.proofs.Halves.{isBracket, openings-half}
-use Rattle.drawing.specs.Drawing.{Kind}
 use Rattle.format.specs.Calls.{familyOfKind, cellsIn}
 use Rattle.format.proofs.Strings.{families-all}
 use Rattle.format.specs.Fits.{Fits}

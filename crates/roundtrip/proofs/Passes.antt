@@ -17,6 +17,7 @@ use Rattle.count.specs.Below.{count}
 use Rattle.count.proofs.Logic.{true-or-false, both}
 use Rattle.count.proofs.Below.{count-injection}
 use Rattle.count.proofs.Lists.{table-length, table-getD}
+use Rattle.answers.specs.Answer.{Kind}
 use Rattle.orbits.specs.Cycles.{Permutes, SameCycle}
 use Rattle.orbits.proofs.Same.{same-cycle-trans, same-cycle-sym, same-cycle-induct}
 use Rattle.words.specs.Brackets.{Balanced, isOpens, step}
@@ -24,7 +25,7 @@ use Rattle.words.specs.declared.family.Family.{Family}
 use Rattle.words.specs.declared.family.Family.the-variants.{Round as round, Square as square}
 use Rattle.words.specs.Word.{sameFamily, Word, seen, crossing}
 use Rattle.words.proofs.Numbers.{openings}
-use Rattle.drawing.specs.Drawing.{Drawing, Kind, borders, ends, border, turn, isMarked, over, walk, endAt, positionOf}
+use Rattle.drawing.specs.Drawing.{Drawing, borders, ends, border, turn, isMarked, over, walk, endAt, positionOf}
 use Rattle.drawing.specs.Checks.{LengthsFit, InRange, Distinct, Linked, here, turned, crossing as across, Joined, FewMarks, markCount, Crossing, PassesSeven}
 use Rattle.drawing.proofs.Ends.{over-yes, over-no, walk-permutes}
 use Rattle.tours.specs.Tour.{MeetsAll}

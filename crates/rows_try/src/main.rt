@@ -2,15 +2,15 @@
 // they are the same in every line. Then the drawings of (a) to (c), which are accepted: 0.
 use format::LONGEST;
 use libc::STDOUT_FILENO;
-use opening::Area;
-use opening::Count;
-use opening::Opened;
-use opening::Place;
-use opening::PlaceAnswer;
-use opening::Point;
-use packing::Packed;
-use reading::Parsed;
-use unpacking::Unpacked;
+use answers::Area;
+use answers::Count;
+use answers::Opened;
+use answers::Place;
+use answers::PlaceAnswer;
+use answers::Point;
+use answers::Packed;
+use answers::Parsed;
+use answers::Unpacked;
 
 const SHORT: usize = LONGEST - 1;
 

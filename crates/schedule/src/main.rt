@@ -4,11 +4,11 @@ use scheduling::ROOM;
 ghost use mathlib.Core.Path.{_≡_};
 ghost use Prim.Native.Nat.{_+_};
 ghost use lib.ListN.{length};
-ghost use Rattle.drawing.specs.Laid.{laid};
+ghost use Rattle.answers.specs.Lent.{laid};
 ghost use Rattle.format.specs.Bytes.{longest};
-ghost use Rattle.piping.specs.Heard.{heard};
 ghost use Rattle.text.specs.Listing.{refusedLine};
 ghost use Rattle.text.specs.Schedule.{scheduleOf};
+ghost use Rattle.text.specs.Heard.{heard};
 
 // One byte more than the longest map: a longer input gets the same line as its first bytes (`schedule-cut` of the crate `text`).
 const LIMIT: usize = LONGEST + 1;

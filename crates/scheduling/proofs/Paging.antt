@@ -18,7 +18,7 @@ use lib.ListN.{length, getD}
 use Rattle.count.specs.Below.{table}
 use Rattle.count.proofs.Logic.{same-or-not}
 use Rattle.count.proofs.Lists.{table-length, table-more}
-use Rattle.drawing.specs.Drawing.{Kind}
+use Rattle.answers.specs.Answer.{Kind}
 use Rattle.format.specs.Bytes.{sizeIn, wordIn}
 use Rattle.format.specs.Open.{openRefusal}
 use Rattle.format.specs.Calls.{cellsIn, firstIn, placesIn}

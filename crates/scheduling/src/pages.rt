@@ -2,7 +2,7 @@
 use crate::rows::put_break;
 use crate::rows::put_row;
 use crate::rows::put_total;
-use bits::wide;
+use lending::wide;
 use layout::areas;
 ghost use mathlib.Core.Path.{_≡_};
 ghost use Prim.Native.Nat.{_≤_};

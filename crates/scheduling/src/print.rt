@@ -4,7 +4,7 @@ use tallying::MOST_AREAS;
 use tallying::tally;
 ghost use mathlib.Core.Path.{_≡_};
 ghost use lib.ListN.{length};
-ghost use Rattle.drawing.specs.Laid.{laid};
+ghost use Rattle.answers.specs.Lent.{laid};
 ghost use Rattle.format.specs.Open.{openRefusal};
 ghost use Rattle.printing.specs.Writing.{Wrote};
 ghost use Rattle.tallying.specs.Tallied.{Tallied};

@@ -17,6 +17,8 @@ use borrow.Author.Tests.{eq-eqb, ne-eqb}
 use lib.Dec.{eqb}
 use Rattle.count.specs.Below.{count}
 use Rattle.count.proofs.Counts.{count-yes, count-no, count-none, count-before}
+use Rattle.answers.specs.declared.numbers.Point.{Point}
+use Rattle.answers.specs.Answer.{Kind}
 use Rattle.words.specs.Brackets.{Bracket, Balanced, inner, number, step, first, size}
 use Rattle.words.specs.declared.family.Family.the-variants.{Round as round}
 use Rattle.words.specs.Word.{seen, Word, crossing}
@@ -24,11 +26,9 @@ use Rattle.words.proofs.Stack.{inner-le}
 use Rattle.words.proofs.Step.{step-below, inner-step}
 use Rattle.words.proofs.Numbers.{inner-number, number-inner}
 use Rattle.words.proofs.Order.{walk-rises, walk-returns}
-use Rattle.drawing.specs.Drawing.{Kind}
 use Rattle.format.specs.Bytes.{sizeIn, bitsA, wordIn}
 use Rattle.format.specs.Calls.{joinIn, placesIn}
-use Rattle.opening.specs.declared.answers.Point.{Point}
-use Rattle.opening.specs.declared.answers.Cell.{Cell}
+use Rattle.opening.specs.declared.cells.Cell.{Cell}
 use Rattle.sizing.proofs.Counting.{size-none, first-itself, size-some}
 use Rattle.surveying.specs.Surveyed.{Early}
 use Rattle.searching.specs.Joined.{joinedIn, joinedFrom, Start}

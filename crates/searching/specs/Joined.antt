@@ -7,10 +7,10 @@
 use mathlib.Core.Path.{_≡_}
 use mathlib.Core.List.{List}
 use Prim.Native.Nat.{ℕ}
+use Rattle.answers.specs.Answer.{Kind}
 use Rattle.words.specs.Brackets.{inner, number, first, size}
 use Rattle.words.specs.declared.family.Family.the-variants.{Round as round}
 use Rattle.words.specs.Word.{seen}
-use Rattle.drawing.specs.Drawing.{Kind}
 use Rattle.format.specs.Bytes.{sizeIn, bitsA, wordIn}
 use Rattle.format.specs.Calls.{placesIn, joinIn}
 use Rattle.walking.specs.Positions.{Position}

@@ -1,7 +1,7 @@
 // The search about a point for a border that joins it with another, in one loop in turning order.
 use layout::bits_a;
 use opening::Cell;
-use opening::Point;
+use answers::Point;
 use sizing::size_at;
 use surveying::crossing_in;
 use surveying::point_in;
@@ -11,8 +11,8 @@ use walking::step_past;
 use words::Family;
 ghost use mathlib.Core.Path.{_≡_};
 ghost use Rattle.words.specs.declared.family.Family.the-variants.{Round as round};
-ghost use Rattle.opening.specs.declared.answers.Cell.{Cell};
 ghost use Rattle.format.specs.Bytes.{sizeIn, bitsA};
+ghost use Rattle.opening.specs.declared.cells.Cell.{Cell};
 ghost use Rattle.walking.specs.Positions.{Numbered};
 ghost use Rattle.surveying.specs.Surveyed.{Mates, Numbers, Early};
 ghost use Rattle.searching.specs.Joined.{joinedIn, joinedFrom, Start};

@@ -23,8 +23,8 @@ use Rattle.bits.specs.Strings.{bit, isBit, rank}
 use Rattle.bits.proofs.Laws.{rank-here, rank-other, rank-le}
 use Rattle.format.specs.Bytes.{sizeIn, bitsA, partA, partB, familyBit, wordIn}
 use Rattle.format.specs.Calls.{familyOfKind, placesIn}
-use Rattle.opening.specs.declared.answers.Cell.{Cell}
 use Rattle.opening.specs.Cells.{kindOf, numberOfCell}
+use Rattle.opening.specs.declared.cells.Cell.{Cell}
 use Rattle.sizing.specs.Runs.{flat, run, Within}
 use Rattle.sizing.proofs.Runs.{run-end, run-neither, run-opens, run-closes, run-leaves}
 use Rattle.walking.specs.Positions.{Position, Numbered}

@@ -2,7 +2,7 @@
 use bits::WIDEST;
 use bits::count_in;
 use bits::field;
-use bits::least;
+use lending::least;
 ghost use mathlib.Core.Path.{_≡_};
 ghost use Prim.Native.Nat.{_-_, _≤_};
 ghost use Rattle.bits.specs.Strings.{isBit, among};

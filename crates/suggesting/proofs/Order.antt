@@ -15,11 +15,10 @@ use borrow.Author.Tests.{le-leb, lt-leb}
 use lib.Dec.{leb}
 use lib.ListN.{length, take}
 use Rattle.count.specs.Below.{Decides}
-use Rattle.refusals.proofs.Steps.{stops-at, passes-all, by-numbers, goes-on}
-use Rattle.bits.specs.Writes.{cleared}
-use Rattle.drawing.specs.Drawing.{Drawing, borders}
+use Rattle.answers.proofs.Steps.{stops-at, passes-all, by-numbers, goes-on}
+use Rattle.answers.specs.Lent.{cleared}
+use Rattle.drawing.specs.Drawing.{Drawing, borders, lent}
 use Rattle.drawing.specs.Checks.{lengthsFit, entriesFit, distinct, connected}
-use Rattle.drawing.specs.Laid.{lent}
 use Rattle.format.specs.Pack.{workLeft}
 use Rattle.format.specs.Suggest.{marksChecks, marksRefusal, Suggests}
 use Rattle.checking.specs.Lent.{Ranged, Differ, Turns}

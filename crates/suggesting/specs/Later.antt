@@ -9,7 +9,7 @@ use mathlib.Core.Logic.{_≢_}
 use mathlib.Core.List.{List}
 use Prim.Native.Nat.{ℕ}
 use lib.ListN.{drop}
-use Rattle.refusals.specs.Checks.{Check, refusalIn}
+use Rattle.answers.specs.Checks.{Check, refusalIn}
 use Rattle.drawing.specs.Drawing.{Drawing}
 use Rattle.drawing.specs.Tree.{SuggestedTree}
 use Rattle.format.specs.Suggest.{marksChecks}

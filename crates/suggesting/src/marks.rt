@@ -2,7 +2,7 @@
 ghost use mathlib.Core.Path.{_≡_};
 ghost use Prim.Native.Nat.{ℕ, _*_};
 ghost use lib.ListN.{length};
-ghost use Rattle.drawing.specs.Laid.{lent};
+ghost use Rattle.drawing.specs.Drawing.{lent};
 ghost use Rattle.format.specs.Suggest.{Suggests};
 ghost use Rattle.checking.specs.Lent.{Ranged, Blank};
 ghost use Rattle.suggesting.specs.Later.{SuggestsLater};
@@ -22,7 +22,7 @@ pub fn suggest(turning: &[u16], marks: &mut [u8], work: &mut [u16]) -> u8
     if !checking::entries_fit(turning) {
         return 3;
     }
-    bits::clear(work, k);
+    lending::clear(work, k);
     suggest_tree(turning, marks, work)
 }
 

@@ -12,7 +12,7 @@ use lib.ListN.{length, getD, set, length-set}
 use lib.Seq.{getD-set-same, getD-set-other}
 use Rattle.count.specs.Below.{table}
 use Rattle.count.proofs.Logic.{same-or-not}
-use Rattle.drawing.specs.Laid.{laid}
+use Rattle.answers.specs.Lent.{laid}
 use Rattle.surveying.proofs.Laws.{laid-table}
 
 module _ (f : ℕ → ℕ) (n : ℕ) (old : List ℕ) where

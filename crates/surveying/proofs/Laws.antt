@@ -22,11 +22,11 @@ use Rattle.count.proofs.Logic.{lt-or-ge}
 use Rattle.count.proofs.Below.{count-same}
 use Rattle.count.proofs.Search.{find-same}
 use Rattle.count.proofs.Lists.{table-length, table-getD}
+use Rattle.answers.specs.Lent.{laid}
 use Rattle.words.specs.Brackets.{number, first, size}
 use Rattle.words.specs.declared.family.Family.{Family}
 use Rattle.words.specs.Word.{seen, crossing}
 use Rattle.words.proofs.Crossing.{crossing-below}
-use Rattle.drawing.specs.Laid.{laid}
 use Rattle.format.specs.Bytes.{sizeIn, bitsA, wordIn}
 use Rattle.format.specs.Open.{openRefusal}
 use Rattle.walking.proofs.Decoded.{nested, places-most}

@@ -17,11 +17,11 @@ use lib.ListN.{length, getD, set, length-set}
 use lib.Seq.{getD-set-same, getD-set-other}
 use Rattle.count.specs.Below.{table}
 use Rattle.count.proofs.Logic.{same-or-not}
+use Rattle.answers.specs.Lent.{laid}
 use Rattle.words.specs.Brackets.{Balanced, opens, closes, inner, mate}
 use Rattle.words.specs.declared.family.Family.{Family}
 use Rattle.words.specs.Word.{Word, seen, crossing}
 use Rattle.words.proofs.Mate.{inner-closing}
-use Rattle.drawing.specs.Laid.{laid}
 use Rattle.words.proofs.Crossing.{seen-opens, seen-closes, mate-own, crossing-opens, crossing-closes, crossing-below, crossing-involutive, crossing-family}
 use Rattle.surveying.proofs.Laws.{laid-table}
 

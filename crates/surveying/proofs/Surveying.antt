@@ -14,13 +14,13 @@ use Prim.Native.Nat.{ℕ, _+_, _*_, _<_, _≤_}
 use native.Mathlib.Omega.{arith}
 use lib.ListN.{length, getD, set}
 use Rattle.count.proofs.Logic.{same-or-not}
+use Rattle.answers.specs.Lent.{laid}
 use Rattle.words.specs.Brackets.{number}
 use Rattle.words.specs.declared.family.Family.{Family}
 use Rattle.words.specs.declared.family.Family.the-variants.{Round as round, Square as square}
 use Rattle.words.specs.Word.{seen}
 use Rattle.bits.specs.Strings.{bit}
 use Rattle.bits.proofs.Laws.{bit-below-2}
-use Rattle.drawing.specs.Laid.{laid}
 use Rattle.format.specs.Bytes.{sizeIn, bitsA, startB, partA, familyBit, wordIn}
 use Rattle.format.specs.Open.{openRefusal}
 use Rattle.walking.proofs.Decoded.{places-most, nested}

@@ -1,11 +1,11 @@
 // Moves and numbers, looked up in lists of a map. What a list has no entry for is found by walking through the bytes: few
 // questions are cheaper that way, and an empty list serves them.
-use bits::wide;
+use lending::wide;
 use layout::bits_a;
 use layout::family_bit;
 use layout::part_a;
-use opening::Area;
-use opening::Point;
+use answers::Area;
+use answers::Point;
 use walking::after;
 use walking::crossing_at;
 use walking::mate_at;

@@ -2,7 +2,7 @@
 //
 // What it knows of a family stands in lists of two entries, at the bit that A has for the family: 1 for the round brackets, 0
 // for the square ones. So the family is an index and not a jump, which the brackets of a map would make slow.
-use bits::wide;
+use lending::wide;
 use layout::bits_a;
 use layout::part_a;
 use layout::start_b;
@@ -10,8 +10,8 @@ use words::Family;
 ghost use mathlib.Core.Path.{_≡_};
 ghost use Prim.Native.Nat.{_+_, _*_, _≤_};
 ghost use lib.ListN.{length, getD};
+ghost use Rattle.answers.specs.Lent.{laid};
 ghost use Rattle.words.specs.declared.family.Family.the-variants.{Round as round, Square as square};
-ghost use Rattle.drawing.specs.Laid.{laid};
 ghost use Rattle.format.specs.Bytes.{sizeIn, startB};
 ghost use Rattle.format.specs.Open.{openRefusal};
 ghost use Rattle.surveying.specs.Surveyed.{matesIn, numbersIn, Mates, Numbers};

@@ -23,12 +23,12 @@ use borrow.Author.Tests.{eq-eqb, ne-eqb}
 use Rattle.count.specs.Below.{pick, count, find}
 use Rattle.count.proofs.Logic.{same-or-not, lt-or-ge, true-or-false, pick-yes, pick-no}
 use Rattle.count.proofs.Below.{count-zero, count-yes, count-no, count-le, count-mono, count-before, count-none, find-is, find-has, find-not}
+use Rattle.answers.specs.Lent.{laid}
+use Rattle.answers.specs.Answer.{Kind}
 use Rattle.words.specs.Brackets.{number, first, size}
 use Rattle.words.specs.declared.family.Family.the-variants.{Square as square}
 use Rattle.words.specs.Word.{seen}
 use Rattle.words.proofs.Numbers.{number-positive, number-reached}
-use Rattle.drawing.specs.Drawing.{Kind}
-use Rattle.drawing.specs.Laid.{laid}
 use Rattle.format.specs.Bytes.{sizeIn, bitsA, wordIn}
 use Rattle.format.specs.Open.{openRefusal}
 use Rattle.format.specs.Calls.{cellsIn, firstIn, placesIn}

@@ -10,7 +10,7 @@ use mathlib.Core.List.{List}
 use Prim.Native.Nat.{ℕ, suc, _<_}
 use lib.ListN.{getD}
 use Rattle.count.specs.Below.{table}
-use Rattle.drawing.specs.Drawing.{Kind}
+use Rattle.answers.specs.Answer.{Kind}
 use Rattle.format.specs.Bytes.{sizeIn, wordIn}
 use Rattle.format.specs.Calls.{cellsIn, firstIn, placesIn}
 

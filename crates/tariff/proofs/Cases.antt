@@ -5,8 +5,8 @@ use mathlib.Core.Bool.{true, false}
 use mathlib.Core.List.{List, [], _∷_}
 use Prim.Native.Nat.{ℕ}
 use lib.Ieee.{Float, binary64, nan, ofBits}
+use Rattle.answers.specs.Answer.{answer, refused}
 use Rattle.drawing.specs.Drawing.{Drawing}
-use Rattle.drawing.specs.Session.{answer, refused}
 use Rattle.tariff.specs.declared.factor.Factor.{Factor}
 use Rattle.tariff.specs.Tariff.{within, held, allowed, mean, sumAcross}
 use Rattle.tariff.specs.Book.{bookFactor}

@@ -18,18 +18,18 @@ use lib.Ieee.{Float, le}
 use lib.ListN.{getD, drop}
 use Rattle.count.specs.Below.{pick}
 use Rattle.count.proofs.Logic.{both-left, both-right}
-use Rattle.refusals.specs.Checks.{Check}
-use Rattle.refusals.proofs.Steps.{Passed, none-append, answered-all, answered-none}
-use Rattle.drawing.specs.Drawing.{Kind}
-use Rattle.drawing.specs.Session.{answer, refused}
+use Rattle.answers.specs.Checks.{Check}
+use Rattle.answers.proofs.Steps.{Passed, none-append, answered-all, answered-none}
+use Rattle.answers.specs.Answer.{answer, refused, Kind}
 use Rattle.format.specs.Bytes.{sizeIn, wordIn}
-use Rattle.format.specs.Open.{openChecks, openRefusal, opened}
+use Rattle.format.specs.Open.{openChecks, openRefusal}
 use Rattle.format.specs.Calls.{cellsIn, isNumber, landingsIn}
+use Rattle.format.proofs.Passes.{opened}
 use Rattle.tariff.specs.declared.factor.Factor.{Factor}
 use Rattle.tariff.specs.declared.factor.Running.{Running}
 use Rattle.tariff.specs.Tariff.{factorAt, held, allowed, TariffFits, tariffFits, sumAcross, hasFactor, mean, worth, rated}
-use Rattle.tariff.specs.Maps.{factorOf}
-use Rattle.tariff.specs.Statements.{factorChecks, factorIn, Factored}
+use Rattle.tariff.specs.Maps.{factorOf, factorChecks, factorIn}
+use Rattle.tariff.specs.Statements.{Factored}
 use Rattle.tariff.proofs.Lists.{tariff-decides}
 use Rattle.tariff.proofs.Order.{factor-order}
 use Rattle.tariff.proofs.Held.{held-inside, held-between, held-within}

@@ -14,6 +14,7 @@ use native.Mathlib.Omega.{arith}
 use lib.Dec.{eqb}
 use lib.ListN.{length, getD}
 use Rattle.count.proofs.Below.{count-le}
+use Rattle.answers.specs.Answer.{Kind}
 use Rattle.words.specs.Brackets.{Balanced, step, number, first, size}
 use Rattle.words.specs.declared.family.Family.{Family}
 use Rattle.words.specs.declared.family.Family.the-variants.{Square as square}
@@ -21,7 +22,6 @@ use Rattle.words.specs.Word.{Word, seen, crossing}
 use Rattle.words.proofs.Step.{step-below}
 use Rattle.words.proofs.Crossing.{crossing-below}
 use Rattle.words.proofs.Sizes.{first-below}
-use Rattle.drawing.specs.Drawing.{Kind}
 use Rattle.drawing.specs.Neighbours.{landings}
 use Rattle.format.specs.Bytes.{sizeIn, bitsA, wordIn}
 use Rattle.format.specs.Open.{openRefusal}

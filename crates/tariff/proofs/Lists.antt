@@ -21,8 +21,7 @@ use Rattle.count.proofs.Logic.{lt-or-ge}
 use Rattle.count.proofs.Decides.{decides-true, decides-eq, decides-le, decides-lt, decides-both, decides-all, decides-as}
 use Rattle.tariff.specs.declared.factor.Factor.{Factor}
 use Rattle.tariff.specs.declared.factor.Running.{Running}
-use Rattle.tariff.specs.Tariff.{factorAt, allowed, TariffFits, tariffFits, begun, added, summed, hasFactor}
-use Rattle.tariff.specs.Statements.{Known, Priced}
+use Rattle.tariff.specs.Tariff.{factorAt, allowed, TariffFits, tariffFits, begun, added, summed, hasFactor, Known, Priced}
 
 pub tariff-decides : (v : ℕ) (kinds : List ℕ) (values : List Float) → Decides (tariffFits v kinds values) (TariffFits v kinds values)
 unfolding tariffFits

@@ -8,34 +8,30 @@ use Prim.Native.Nat.{ℕ}
 use lib.Ieee.{Float}
 use lib.ListN.{drop}
 use Rattle.count.proofs.Decides.{decides-true}
-use Rattle.refusals.specs.Checks.{Check, InOrder, Decided}
-use Rattle.refusals.proofs.Order.{decided-append, in-order}
-use Rattle.drawing.specs.Drawing.{Kind}
+use Rattle.answers.specs.Checks.{Check, InOrder, Decided}
+use Rattle.answers.proofs.Order.{decided-append, in-order}
+use Rattle.answers.specs.Answer.{Kind}
 use Rattle.format.specs.Bytes.{sizeIn, wordIn}
-use Rattle.format.specs.Open.{openChecks, opened}
-use Rattle.format.specs.Calls.{cellsIn, isNumber, landingsIn}
-use Rattle.format.proofs.Passes.{open-decided}
-use Rattle.tariff.specs.Tariff.{factorAt, sumAcross, rated}
-use Rattle.tariff.specs.Maps.{factorOf}
-use Rattle.tariff.specs.Statements.{factorChecks, factorIn}
+use Rattle.format.specs.Open.{openChecks}
+use Rattle.format.specs.Calls.{cellsIn, cellChecks, landingsIn}
+use Rattle.format.proofs.Orders.{cell-decided}
+use Rattle.tariff.specs.Tariff.{factorAt, sumAcross, tariffChecks}
+use Rattle.tariff.specs.Maps.{factorOf, factorChecks, factorIn}
 use Rattle.tariff.proofs.Lists.{tariff-decides, factor-decides}
 
 module _ (s : List ℕ) (k : ℕ) (kinds : List ℕ) (values : List Float) where
   abbrev own : List Check
-  own = drop 6 (factorChecks s k kinds values)
+  own = tariffChecks (cellsIn (sizeIn s) Kind.area) kinds values k (landingsIn (wordIn s) k)
 
   own-decided : Decided own
   unfolding sumAcross
   own-decided = (
-    decides-true (isNumber (sizeIn s) Kind.area k),
-    λ _. (
-      tariff-decides (cellsIn (sizeIn s) Kind.area) kinds values,
-      λ _. (factor-decides (factorAt kinds values) k (landingsIn (wordIn s) k), λ _. tt),
-    ),
+    tariff-decides (cellsIn (sizeIn s) Kind.area) kinds values,
+    λ _. (factor-decides (factorAt kinds values) k (landingsIn (wordIn s) k), λ _. tt),
   )
 
   pub factor-order : InOrder (factorChecks s k kinds values) (factorIn s k kinds values) (factorOf s k kinds values)
-  unfolding factorOf opened rated factorIn
+  unfolding factorOf
   factor-order =
       in-order (factorChecks s k kinds values) (factorIn s k kinds values)
-      (decided-append (openChecks s) own (open-decided s) (λ _. own-decided))
+      (decided-append (cellChecks s Kind.area k) own (cell-decided s Kind.area k) (λ _. own-decided))

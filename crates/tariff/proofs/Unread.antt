@@ -18,16 +18,16 @@ use lib.Ieee.{Float, nan}
 use lib.ListN.{length, getD}
 use Rattle.count.specs.Below.{pick}
 use Rattle.count.proofs.Logic.{both-left, both-right, bool-same}
-use Rattle.refusals.proofs.Steps.{checked-same}
-use Rattle.drawing.specs.Drawing.{Kind}
-use Rattle.drawing.specs.Session.{Answer, answer, refused}
+use Rattle.answers.proofs.Steps.{checked-same}
+use Rattle.answers.specs.Answer.{Answer, answer, refused, Kind}
 use Rattle.format.specs.Bytes.{sizeIn, wordIn}
-use Rattle.format.specs.Open.{openChecks, openRefusal, opened}
+use Rattle.format.specs.Open.{openChecks, openRefusal}
 use Rattle.format.specs.Calls.{cellsIn, isNumber, landingsIn}
+use Rattle.format.proofs.Passes.{opened}
 use Rattle.tariff.specs.declared.factor.Factor.{Factor}
 use Rattle.tariff.specs.declared.factor.Running.{Running}
 use Rattle.tariff.specs.Tariff.{factorAt, allowed, TariffFits, tariffFits, begun, added, summed, sumAcross, hasFactor, worth, rated}
-use Rattle.tariff.specs.Maps.{factorOf}
+use Rattle.tariff.specs.Maps.{factorIn, factorOf}
 use Rattle.tariff.specs.Statements.{SameUsed}
 use Rattle.tariff.proofs.Lists.{tariff-decides}
 use Rattle.tariff.proofs.Landings.{landings-areas}
@@ -111,7 +111,7 @@ module _ (v : ℕ) (kinds : List ℕ) (values others : List Float) (S : SameUsed
 
 pub factor-unread : (s : List ℕ) (k : ℕ) (kinds : List ℕ) (values others : List Float) → SameUsed kinds values others
     → factorOf s k kinds others ≡ factorOf s k kinds values
-unfolding factorOf opened openRefusal
+unfolding factorOf openRefusal rated factorIn
 factor-unread s k kinds values others S =
     let v = cellsIn (sizeIn s) Kind.area in
     let js = landingsIn (wordIn s) k in

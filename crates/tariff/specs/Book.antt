@@ -6,8 +6,8 @@ use mathlib.Core.List.{List}
 use Prim.Native.Nat.{ℕ}
 use lib.Ieee.{Float}
 use Rattle.count.specs.Below.{pick}
-use Rattle.drawing.specs.Drawing.{Drawing, Kind, cells}
-use Rattle.drawing.specs.Session.{Answer, refused}
+use Rattle.answers.specs.Answer.{Answer, refused, Kind}
+use Rattle.drawing.specs.Drawing.{Drawing, cells}
 use Rattle.drawing.specs.Book.{hasNumber, bookLandings}
 use Rattle.tariff.specs.Tariff.{rated}
 

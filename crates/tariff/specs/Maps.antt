@@ -1,21 +1,28 @@
 -- The factor of an area of a map, as a total function of the bytes, the number and the two lists.
 --
--- factorOf s k kinds values == opening's refusal, 15, 18, 19, or the factor of area k of the map s
+-- factorChecks s k kinds values == the call's checks in the order in which they run: opening's, 15, 18 and 19
+-- factorIn s k kinds values == the factor of area k by the lists, whatever the checks say
+-- factorOf s k kinds values == the factor of area k of the map s, after these checks
 -- Assumes nothing.
-use mathlib.Core.List.{List}
+use mathlib.Core.List.{List, _++_}
 use Prim.Native.Nat.{ℕ}
 use lib.Ieee.{Float}
-use Rattle.count.specs.Below.{pick}
-use Rattle.drawing.specs.Drawing.{Kind}
-use Rattle.drawing.specs.Session.{Answer, refused}
+use Rattle.answers.specs.Answer.{Answer, Kind}
+use Rattle.answers.specs.Checks.{Check, after}
 use Rattle.format.specs.Bytes.{sizeIn, wordIn}
-use Rattle.format.specs.Open.{opened}
-use Rattle.format.specs.Calls.{cellsIn, isNumber, landingsIn}
-use Rattle.tariff.specs.Tariff.{rated}
+use Rattle.format.specs.Open.{openOf}
+use Rattle.format.specs.Calls.{cellsIn, cellChecks, landingsIn}
+use Rattle.tariff.specs.Tariff.{factorAt, tariffFits, sumAcross, hasFactor, worth, tariffChecks}
 
 -- 02: "both come after opening and 15, 18 first"
+abbrev pub factorChecks : List ℕ → ℕ → List ℕ → List Float → List Check
+factorChecks s k kinds values =
+    cellChecks s Kind.area k ++ tariffChecks (cellsIn (sizeIn s) Kind.area) kinds values k (landingsIn (wordIn s) k)
+
+unfoldable pub factorIn : List ℕ → ℕ → List ℕ → List Float → Float
+unfolding worth factorAt sumAcross landingsIn wordIn
+factorIn s k kinds values = worth (factorAt kinds values k) (sumAcross kinds values (landingsIn (wordIn s) k))
+
 unfoldable pub factorOf : List ℕ → ℕ → List ℕ → List Float → Answer Float
-unfolding opened sizeIn rated landingsIn wordIn
-factorOf s k kinds values =
-    opened s
-    (pick (isNumber (sizeIn s) Kind.area k) (rated (cellsIn (sizeIn s) Kind.area) kinds values k (landingsIn (wordIn s) k)) (refused 15))
+unfolding openOf tariffFits hasFactor factorIn
+factorOf s k kinds values = after (factorChecks s k kinds values) (factorIn s k kinds values)

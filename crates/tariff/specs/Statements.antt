@@ -1,9 +1,5 @@
 -- What document 02, 4/14, says of the factor of an area: one record, for every byte string, number and pair of lists.
 --
--- Known f            == the factor f is known
--- Priced t k js      == area k is known, or one of the areas js across its sides is; t is the factor of an area
--- factorChecks s k kinds values == the call's checks in the order in which they run: opening's, then its own
--- factorIn s k kinds values == the factor of area k by the lists, whatever the checks say
 -- uses b f           == whether a kind byte b uses its number f: 0 the factor, 1 the floor, 2 the ceiling
 -- SameUsed kinds values others == the two lists of numbers agree in all that is used
 -- Factored s k kinds values == the whole
@@ -17,37 +13,14 @@ use lib.Dec.{eqb}
 use lib.Ieee.{Float, binary64, nan, ofBits, le}
 use lib.ListN.{length, getD}
 use Rattle.count.specs.Below.{pick}
-use Rattle.refusals.specs.Checks.{Check, check, InOrder}
-use Rattle.drawing.specs.Drawing.{Kind}
-use Rattle.drawing.specs.Session.{answer}
+use Rattle.answers.specs.Checks.{Check, check, InOrder}
+use Rattle.answers.specs.Answer.{answer, Kind}
 use Rattle.format.specs.Bytes.{sizeIn, wordIn}
 use Rattle.format.specs.Open.{openChecks}
 use Rattle.format.specs.Calls.{cellsIn, isNumber, landingsIn}
 use Rattle.tariff.specs.declared.factor.Factor.{Factor}
 use Rattle.tariff.specs.Tariff.{factorAt, TariffFits, tariffFits, mean, sumAcross, hasFactor, worth}
-use Rattle.tariff.specs.Maps.{factorOf}
-
-abbrev pub Known : Factor → Type 0
-Known f = f ≢ Factor.Unknown
-
--- 19: "when the unknown factor wanted has no known one across any side"
-abbrev pub Priced : (ℕ → Factor) → ℕ → List ℕ → Type 0
-Priced t k js = Known (t k) ⊎ ((i : ℕ) × (i < length js) × Known (t (getD js i 0)))
-
--- 02: "both come after opening and 15, 18 first"
-abbrev pub factorChecks : List ℕ → ℕ → List ℕ → List Float → List Check
-factorChecks s k kinds values =
-    let v : ℕ = cellsIn (sizeIn s) Kind.area in
-    let js : List ℕ = landingsIn (wordIn s) k in
-    openChecks s
-    ++ (check 15 (isNumber (sizeIn s) Kind.area k) (isNumber (sizeIn s) Kind.area k ≡ true)
-    ∷ check 18 (tariffFits v kinds values) (TariffFits v kinds values)
-    ∷ check 19 (hasFactor (factorAt kinds values k) (sumAcross kinds values js)) (Priced (factorAt kinds values) k js)
-    ∷ [])
-
-unfoldable pub factorIn : List ℕ → ℕ → List ℕ → List Float → Float
-unfolding worth factorAt sumAcross landingsIn wordIn
-factorIn s k kinds values = worth (factorAt kinds values k) (sumAcross kinds values (landingsIn (wordIn s) k))
+use Rattle.tariff.specs.Maps.{factorChecks, factorIn, factorOf}
 
 abbrev pub uses : ℕ → ℕ → Bool
 uses b f = pick (eqb b 0) (eqb f 0) (eqb b 1)

@@ -18,10 +18,13 @@
 -- sumAcross kinds values js == the sum of the known factors of the areas js
 -- hasFactor f r      == passes 19: the factor f is known, or the sum r across the sides has at least one in it
 -- worth f r          == the factor that an area is given: its own, held, or the mean
--- priced f r         == 19, or that
+-- Known f            == the factor f is known
+-- Priced t k js      == passes 19: area k is known, or one of the areas js across its sides is; t is the factor of an area
+-- tariffChecks v kinds values k js == the checks 18 and 19, of area k of v, with the areas js across its sides
 -- rated v kinds values k js == 18, 19, or the factor of area k of v, with the areas js across its sides
 -- Assumes nothing.
 use mathlib.Core.Path.{_≡_}
+use mathlib.Core.Logic.{_≢_, _⊎_}
 use mathlib.Core.Bool.{Bool, true, not, _&&_}
 use mathlib.Core.List.{List, [], _∷_}
 use Prim.Native.Nat.{ℕ, suc, pred, _+_, _*_, _≤_, _<_}
@@ -30,7 +33,8 @@ use lib.IntN.{pos}
 use lib.Ieee.{Float, binary64, nan, ofBits, ofInt, add, div, lt, le}
 use lib.ListN.{length, getD}
 use Rattle.count.specs.Below.{pick, all}
-use Rattle.drawing.specs.Session.{Answer, answer, refused}
+use Rattle.answers.specs.Answer.{Answer}
+use Rattle.answers.specs.Checks.{Check, check, after}
 use Rattle.tariff.specs.declared.factor.Factor.{Factor}
 use Rattle.tariff.specs.declared.factor.Running.{Running}
 
@@ -122,16 +126,25 @@ worth (Factor.Own x) r = x
 worth (Factor.Held x low high) r = held x low high
 worth Factor.Unknown r = mean r
 
-unfoldable pub priced : Factor → Running → Answer Float
-unfolding hasFactor worth
-priced f r = pick (hasFactor f r) (answer (worth f r)) (refused 19)
-
 -- 02: "begin at 0.0, add the known factors"
 unfoldable pub sumAcross : List ℕ → List Float → List ℕ → Running
 unfolding summed factorAt
 sumAcross kinds values js = summed (factorAt kinds values) js begun
 
+abbrev pub Known : Factor → Type 0
+Known f = f ≢ Factor.Unknown
+
+-- 19: "when the unknown factor wanted has no known one across any side"
+abbrev pub Priced : (ℕ → Factor) → ℕ → List ℕ → Type 0
+Priced t k js = Known (t k) ⊎ ((i : ℕ) × (i < length js) × Known (t (getD js i 0)))
+
 -- 02: "18 first"
+abbrev pub tariffChecks : ℕ → List ℕ → List Float → ℕ → List ℕ → List Check
+tariffChecks v kinds values k js =
+    check 18 (tariffFits v kinds values) (TariffFits v kinds values)
+    ∷ check 19 (hasFactor (factorAt kinds values k) (sumAcross kinds values js)) (Priced (factorAt kinds values) k js)
+    ∷ []
+
 unfoldable pub rated : ℕ → List ℕ → List Float → ℕ → List ℕ → Answer Float
-unfolding tariffFits priced factorAt sumAcross
-rated v kinds values k js = pick (tariffFits v kinds values) (priced (factorAt kinds values k) (sumAcross kinds values js)) (refused 18)
+unfolding tariffFits hasFactor worth factorAt sumAcross
+rated v kinds values k js = after (tariffChecks v kinds values k js) (worth (factorAt kinds values k) (sumAcross kinds values js))

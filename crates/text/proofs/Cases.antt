@@ -4,7 +4,7 @@ use mathlib.Core.List.{List, [], _∷_, map}
 use Prim.Native.Nat.{ℕ}
 use lib.ListN.{length}
 use Rattle.count.specs.Below.{table}
-use Rattle.drawing.specs.Session.{answer, refused}
+use Rattle.answers.specs.Answer.{answer, refused}
 use Rattle.text.specs.Decimal.{codes, decimal}
 use Rattle.text.specs.Input.{readText}
 use Rattle.text.specs.Schedule.{Row, pagesOf, sumOf, scheduleText, scheduleOf}

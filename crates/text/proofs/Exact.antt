@@ -19,8 +19,8 @@ use Prim.Native.Nat.{ℕ, zero, suc, _+_, _*_, _≤_, _<_}
 use native.Mathlib.Omega.{arith}
 use lib.ListN.{length, getD, drop}
 use lib.Seq.{getD-drop, drop-drop}
+use Rattle.answers.specs.Answer.{answer, refused}
 use Rattle.drawing.specs.Drawing.{mostBorders, Drawing, borders, ends, turn}
-use Rattle.drawing.specs.Session.{answer, refused}
 use Rattle.text.specs.Input.{names, borderLine, borderLines, drawingText, Denotes, afterPrefix, with, Line, readLine, Rows, addRow, readLines, drawingOr17, readText}
 use Rattle.text.proofs.Lines.{lineThen, IsLine, read-line, line-read, some-with, read-prefix, prefix-read}
 

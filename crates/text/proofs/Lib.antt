@@ -7,4 +7,5 @@ pub mod Short
 pub mod Aligned
 pub mod Shown
 pub mod Pages
+pub mod Running
 pub mod Schedule

@@ -22,17 +22,15 @@ use Rattle.count.specs.Below.{total, table}
 use Rattle.count.proofs.Logic.{lt-or-ge, true-or-false, both, pick-yes}
 use Rattle.count.proofs.Below.{count-le, find-le}
 use Rattle.count.proofs.Lists.{table-map, table-more}
+use Rattle.answers.specs.Answer.{Answer, answer, refused, Kind, noSuch}
 use Rattle.words.specs.Brackets.{size, first, number}
 use Rattle.words.specs.declared.family.Family.the-variants.{Square as square}
 use Rattle.words.specs.Word.{seen}
 use Rattle.words.proofs.Sizes.{size-sum}
-use Rattle.drawing.specs.Drawing.{Kind}
-use Rattle.drawing.specs.Session.{Answer, answer, refused}
-use Rattle.drawing.specs.Book.{noSuch}
 use Rattle.format.specs.Bytes.{sizeIn, bitsA, wordIn, longest}
-use Rattle.format.specs.Open.{openRefusal, opened}
+use Rattle.format.specs.Open.{openRefusal}
 use Rattle.format.specs.Calls.{cellsIn, isNumber, firstIn, placesIn, firstOf, sizeOf}
-use Rattle.format.proofs.Passes.{opens-passes, opened-opens}
+use Rattle.format.proofs.Passes.{opens-passes, opened-opens, after-opens, opened}
 use Rattle.format.proofs.Openings.{cells-numbers}
 use Rattle.format.proofs.Longest.{too-long, open-cut}
 use Rattle.text.specs.Decimal.{space, lineFeed, decimal, aligned}
@@ -160,7 +158,7 @@ module _ (s : List ℕ) (o : openRefusal s ≡ 0) (k : ℕ) where
   called a = opened-opens s a o
 
   pub schedule-answers : 1 ≤ k → k ≤ cellsIn (sizeIn s) Kind.area → Answered s k
-  unfolding sizeOf firstOf rowOf
+  unfolding sizeOf firstOf rowOf opened
   schedule-answers a b =
       record {
         number = refl;
@@ -180,7 +178,7 @@ pub scheduled : (s : List ℕ) → openRefusal s ≡ 0 → Scheduled s
 unfolding scheduleOf shown schedule
 scheduled s o =
     record {
-      printed = ap (shown schedule) (opened-opens s (answer s) o);
+      printed = ap (shown schedule) (after-opens s s o);
       total = schedule-total s o;
       total-fits = total-length (sumOf (rowsOf s)) (omega (arith, schedule-total s o, opens-passes s o .m-most));
       lines = schedule-lines s o;

@@ -17,8 +17,8 @@ use native.Mathlib.Omega.{arith}
 use lib.ListN.{length, getD, take, drop, length-append}
 use lib.Seq.{getD-drop, take-all, length-take-le}
 use Rattle.count.proofs.Logic.{lt-or-ge}
+use Rattle.answers.specs.Answer.{answer, refused}
 use Rattle.drawing.specs.Drawing.{mostBorders, Drawing, borders, ends, turn}
-use Rattle.drawing.specs.Session.{answer, refused}
 use Rattle.text.specs.Decimal.{decimal}
 use Rattle.text.specs.Input.{names, afterPrefix, with, Rows, readLines, drawingOr17, readText}
 use Rattle.text.proofs.Decimal.{decimal-small, decimal-more}

@@ -5,11 +5,11 @@
 use mathlib.Core.Path.{_≡_, ap}
 use mathlib.Core.List.{List}
 use Prim.Native.Nat.{ℕ}
-use Rattle.drawing.specs.Session.{answer}
-use Rattle.format.specs.Open.{openRefusal, opened}
-use Rattle.format.proofs.Passes.{opened-declines}
+use Rattle.answers.specs.Checks.{after}
+use Rattle.format.specs.Open.{openChecks, openRefusal}
+use Rattle.format.proofs.Passes.{after-declines}
 use Rattle.text.specs.Listing.{refusedLine, shown}
 
-pub shown-line : (f : List ℕ → List ℕ) (s : List ℕ) → (openRefusal s ≡ 0 → ⊥) → shown f (opened s (answer s)) ≡ refusedLine (openRefusal s)
+pub shown-line : (f : List ℕ → List ℕ) (s : List ℕ) → (openRefusal s ≡ 0 → ⊥) → shown f (after (openChecks s) s) ≡ refusedLine (openRefusal s)
 unfolding shown
-shown-line f s n = ap (shown f) (opened-declines s (answer s) n)
+shown-line f s n = ap (shown f) (after-declines s s n)

@@ -12,8 +12,8 @@ use Prim.Native.Nat.{ℕ, zero, suc, _+_, _*_, _≤_, _<_}
 use lib.ListN.{length, getD}
 use lib.Dec.{eqb, leb}
 use Rattle.count.specs.Below.{pick}
+use Rattle.answers.specs.Answer.{Answer, answer, refused}
 use Rattle.drawing.specs.Drawing.{mostBorders, Drawing, borders, ends, turn}
-use Rattle.drawing.specs.Session.{Answer, answer, refused}
 use Rattle.text.specs.Decimal.{codes, space, lineFeed, decimal, Read, readNumber}
 
 -- 01: "The line of names is exactly the one shown."

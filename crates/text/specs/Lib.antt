@@ -2,5 +2,7 @@
 pub mod Decimal
 pub mod Input
 pub mod Listing
+pub mod Running
+pub mod Heard
 pub mod Schedule
 pub mod Statements

@@ -4,18 +4,22 @@
 -- listing s       == the listing of the map s
 -- refusedLine k   == `refused`, a space and the number
 -- shown text a    == the text made of the map that a gives, or the line of its refusal
+-- printed s       == the listing of the map s, or the line of opening's refusal
 -- placesOf s      == what `places` prints for the text s
 -- Assumes nothing.
 use mathlib.Core.Bool.{Bool, true, false}
 use mathlib.Core.List.{List, [], _∷_, _++_}
 use Prim.Native.Nat.{ℕ, zero, suc, _*_}
 use Rattle.count.specs.Below.{pick}
+use Rattle.answers.specs.Answer.{Answer, answer, refusedWith, refused}
+use Rattle.answers.specs.Checks.{after}
 use Rattle.words.specs.declared.family.Family.{Family}
 use Rattle.words.specs.declared.family.Family.the-variants.{Round as round, Square as square}
 use Rattle.words.specs.Word.{Letter, Word}
 use Rattle.drawing.specs.Drawing.{Drawing, borders}
-use Rattle.drawing.specs.Session.{Answer, answer, refusedWith, refused, Call}
+use Rattle.drawing.specs.Session.{Call}
 use Rattle.format.specs.Bytes.{longest, wordIn}
+use Rattle.format.specs.Open.{openChecks, openOf}
 use Rattle.format.specs.Calls.{moveIn}
 use Rattle.format.specs.Pack.{packOf}
 use Rattle.text.specs.Decimal.{codes, space, lineFeed, decimal}
@@ -66,6 +70,11 @@ shown text (refusedWith k xs) = refusedLine k
 unfoldable pub listed : Answer (List ℕ) → List ℕ
 unfolding listing shown
 listed a = shown listing a
+
+-- 01: "It prints the places of the packed map, or one line: `refused`, a space and the number."
+unfoldable pub printed : List ℕ → List ℕ
+unfolding openOf listed
+printed s = listed (after (openChecks s) s)
 
 -- 01: "It prints the places of the packed map"; the program lends packing all that it asks for
 unfoldable pub packed : Answer Drawing → Answer (List ℕ)

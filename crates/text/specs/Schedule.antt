@@ -21,12 +21,13 @@ use mathlib.Core.List.{List, [], _∷_, _++_, map}
 use Prim.Native.Nat.{ℕ, suc, _+_, _-_, _*_, _/_}
 use lib.ListN.{length, take, drop}
 use Rattle.count.specs.Below.{table}
-use Rattle.drawing.specs.Drawing.{Drawing, Kind, cells}
-use Rattle.drawing.specs.Session.{answer, valueOf}
+use Rattle.answers.specs.Answer.{valueOf, Kind}
+use Rattle.answers.specs.Checks.{after}
+use Rattle.drawing.specs.Drawing.{Drawing, cells}
 use Rattle.drawing.specs.Book.{bookFirst, bookSize}
 use Rattle.format.specs.Bytes.{sizeIn, wordIn}
-use Rattle.format.specs.Open.{opened}
 use Rattle.format.specs.Calls.{cellsIn, firstIn, placesIn}
+use Rattle.format.specs.Open.{openChecks, openOf}
 use Rattle.text.specs.Decimal.{codes, lineFeed, aligned}
 use Rattle.text.specs.Listing.{shown}
 
@@ -121,5 +122,5 @@ schedule s = scheduleText (rowsOf s)
 
 -- 02: "A program reads a map's bytes from standard input and prints it, or the `refused` line as `places` does."
 unfoldable pub scheduleOf : List ℕ → List ℕ
-unfolding shown opened schedule
-scheduleOf s = shown schedule (opened s (answer s))
+unfolding openOf shown schedule
+scheduleOf s = shown schedule (after (openChecks s) s)

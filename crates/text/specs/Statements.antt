@@ -11,8 +11,7 @@ use mathlib.Core.List.{List, [], _∷_, _++_, List·Memᴰ, map, flatten}
 use Prim.Native.Nat.{ℕ, suc, _+_, _-_, _*_, _≤_, _<_}
 use lib.ListN.{length, getD}
 use Rattle.count.specs.Below.{table}
-use Rattle.drawing.specs.Drawing.{Kind}
-use Rattle.drawing.specs.Session.{answer}
+use Rattle.answers.specs.Answer.{answer, Kind}
 use Rattle.format.specs.Bytes.{sizeIn}
 use Rattle.format.specs.Calls.{cellsIn, firstOf, sizeOf}
 use Rattle.text.specs.Decimal.{lineFeed, decimal}

@@ -22,10 +22,9 @@ use mir.Syntax.{w16, w64}
 use mir.Val.{Fits}
 use Rattle.count.specs.Below.{any, pick}
 use Rattle.count.proofs.Logic.{same-or-not, either-left}
-use Rattle.drawing.specs.Drawing.{borders, ends, border, other, turn, isMarked, over, walk, endAt}
+use Rattle.drawing.specs.Drawing.{borders, ends, border, other, turn, isMarked, over, walk, endAt, lent}
 use Rattle.drawing.specs.Checks.{LengthsFit, InRange}
 use Rattle.drawing.proofs.Ends.{other-below, over-yes, over-no, end-zero, end-after}
-use Rattle.drawing.specs.Laid.{lent}
 use Rattle.touring.specs.Working.{Outside, Tours, Clean, Noted, tourIn, borderIn, met, isMet}
 use Rattle.touring.proofs.Outside.{outside-none, outside-set}
 

@@ -4,9 +4,8 @@ ghost use mathlib.Core.Path.{_≡_};
 ghost use mathlib.Core.List.{List};
 ghost use Prim.Native.Nat.{ℕ, _*_, _<_, _≤_};
 ghost use lib.ListN.{length};
-ghost use Rattle.drawing.specs.Drawing.{isMarked, over};
+ghost use Rattle.drawing.specs.Drawing.{isMarked, over, lent};
 ghost use Rattle.drawing.specs.Checks.{LengthsFit, InRange};
-ghost use Rattle.drawing.specs.Laid.{lent};
 ghost use Rattle.touring.specs.Working.{Outside, Tours, Clean, Noted};
 
 // Puts the end at each position of the tour into the first 2m entries.

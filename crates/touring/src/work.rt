@@ -1,5 +1,5 @@
 // What the working list says of a position.
-use bits::wide;
+use lending::wide;
 ghost use mathlib.Core.Path.{_≡_};
 ghost use Prim.Native.Nat.{_<_, _/_};
 ghost use lib.ListN.{length};

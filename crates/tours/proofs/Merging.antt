@@ -22,9 +22,10 @@ use borrow.Author.Tests.{eqb-true, eq-eqb, ne-eqb}
 use Rattle.count.specs.Below.{count, any}
 use Rattle.count.proofs.Logic.{same-or-not, lt-or-ge, true-or-false, true-not-false, pick-yes, pick-no, both, both-left, both-right, bool-same}
 use Rattle.count.proofs.Below.{any-has, any-from, count-zero, count-yes, count-no, count-before, count-same, count-implies, count-split, count-none, count-one-less}
+use Rattle.answers.specs.Answer.{Kind}
 use Rattle.orbits.specs.Cycles.{Permutes, low, leads, cycles}
 use Rattle.orbits.proofs.Low.{low-below, leads-is, leads-low}
-use Rattle.drawing.specs.Drawing.{Drawing, Kind, borders, ends, border, other, turn, isMarked, cells}
+use Rattle.drawing.specs.Drawing.{Drawing, borders, ends, border, other, turn, isMarked, cells}
 use Rattle.drawing.specs.Checks.{InRange, Distinct, Joins, Joined, markCount}
 use Rattle.drawing.proofs.Ends.{turn-permutes, other-border, other-below}
 use Rattle.drawing.proofs.Labels.{label, label-start, label-out, label-at, label-off, label-same, linked-label, label-linked}

@@ -19,9 +19,10 @@ use borrow.Author.Tests.{eqb-true, eq-eqb}
 use Rattle.count.specs.Below.{count, any}
 use Rattle.count.proofs.Logic.{true-or-false}
 use Rattle.count.proofs.Below.{count-not, any-has, any-from}
+use Rattle.answers.specs.Answer.{Kind}
 use Rattle.orbits.specs.Cycles.{Permutes, cycles}
 use Rattle.orbits.proofs.Classes.{cycles-same}
-use Rattle.drawing.specs.Drawing.{Drawing, Kind, borders, ends, border, turn, isMarked, over, walk, around, cells, endAt, positionOf, isSecond}
+use Rattle.drawing.specs.Drawing.{Drawing, borders, ends, border, turn, isMarked, over, walk, around, cells, endAt, positionOf, isSecond}
 use Rattle.drawing.specs.Checks.{PassesSix, Alternate, Crossing, markCount}
 use Rattle.drawing.proofs.Ends.{turn-permutes, over-over, two-places}
 use Rattle.tours.specs.Tour.{MeetsAll}

@@ -16,11 +16,11 @@ use Rattle.count.specs.Below.{pick, count, table}
 use Rattle.count.proofs.Logic.{lt-or-ge}
 use Rattle.count.proofs.Below.{count-same, count-zero}
 use Rattle.count.proofs.Lists.{table-length, table-getD}
+use Rattle.answers.specs.Answer.{Kind}
 use Rattle.orbits.specs.Cycles.{Permutes, cycles}
-use Rattle.drawing.specs.Drawing.{Drawing, Kind, borders, ends, turn, marked, isMarked, everyBorder, over, walk, around, cells}
+use Rattle.drawing.specs.Drawing.{Drawing, borders, ends, turn, marked, isMarked, everyBorder, over, walk, around, cells, lent}
 use Rattle.drawing.specs.Checks.{Connected, PassesFour, PassesSix, markCount}
 use Rattle.drawing.specs.Tree.{SuggestedTree}
-use Rattle.drawing.specs.Laid.{lent}
 use Rattle.drawing.proofs.Ends.{entries-permute}
 use Rattle.drawing.proofs.Labels.{linked-within}
 use Rattle.drawing.proofs.Cells.{cells-none, points-are}

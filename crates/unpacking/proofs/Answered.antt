@@ -15,9 +15,9 @@ use lib.Dec.{leb}
 use lib.ListN.{length}
 use Rattle.count.specs.Below.{pick}
 use Rattle.count.proofs.Logic.{both, not-both, pick-yes, pick-no}
+use Rattle.answers.specs.Answer.{Answer, answer, refused, told}
+use Rattle.answers.specs.Lent.{laid, leaves}
 use Rattle.drawing.specs.Drawing.{Drawing, borders}
-use Rattle.drawing.specs.Session.{Answer, answer, refused}
-use Rattle.drawing.specs.Laid.{bordersOf, laid, turningAfter, marksAfter}
 use Rattle.format.specs.Bytes.{sizeIn, wordIn}
 use Rattle.format.specs.Open.{openRefusal}
 use Rattle.format.proofs.Passes.{opened-opens, opened-declines}
@@ -27,13 +27,13 @@ use Rattle.unpacking.proofs.Placed.{nested-in}
 
 abbrev pub Outcome : List ℕ → List ℕ → List ℕ → Answer ℕ → List ℕ → List ℕ → Type 0
 Outcome s t k a t′ k′ =
-    (a ≡ bordersOf (unpackOf s (length t) (length k)))
-    × ((t′ ≡ turningAfter (unpackOf s (length t) (length k)) t)
-    × (k′ ≡ marksAfter (unpackOf s (length t) (length k)) k))
+    (a ≡ told borders (unpackOf s (length t) (length k)))
+    × ((t′ ≡ leaves (λ (D : Drawing). laid (D .turning)) (unpackOf s (length t) (length k)) t)
+    × (k′ ≡ leaves (λ (D : Drawing). laid (D .marks)) (unpackOf s (length t) (length k)) k))
 
 module _ (s t k : List ℕ) (o : ℕ) (e : o ≡ openRefusal s) where
   declined : (x : ℕ) → unpackOf s (length t) (length k) ≡ refused x → Outcome s t k (refused x) t k
-  declined x h = (sym (ap bordersOf h), (sym (ap (λ a. turningAfter a t) h), sym (ap (λ a. marksAfter a k) h)))
+  declined x h = (sym (ap (told borders) h), (sym (ap (λ a. leaves (λ (D : Drawing). laid (D .turning)) a t) h), sym (ap (λ a. leaves (λ (D : Drawing). laid (D .marks)) a k) h)))
 
   -- the lists have room
   roomy : Bool
@@ -73,4 +73,4 @@ module _ (s t k : List ℕ) (o : ℕ) (e : o ≡ openRefusal s) where
         (le-leb (2 * sizeIn s .m) (length t) (omega arith)) (le-leb (sizeIn s .m) (length k) (omega arith)) in
         let u : unpackOf s (length t) (length k) ≡ answer D = own z ∙ pick-yes roomy (answer D) (refused 16) r in
         let c : m ≡ borders D = omega (arith, drawing-half (wordIn s) (nested-in s (sym e ∙ z))) in
-        (ap answer c ∙ sym (ap bordersOf u), (ht ∙ sym (ap (λ a. turningAfter a t) u), hk ∙ sym (ap (λ a. marksAfter a k) u)))
+        (ap answer c ∙ sym (ap (told borders) u), (ht ∙ sym (ap (λ a. leaves (λ (D : Drawing). laid (D .turning)) a t) u), hk ∙ sym (ap (λ a. leaves (λ (D : Drawing). laid (D .marks)) a k) u)))

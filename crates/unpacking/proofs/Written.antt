@@ -17,6 +17,7 @@ use lib.ListN.{length, getD, set}
 use Rattle.count.specs.Below.{pick, table}
 use Rattle.count.proofs.Logic.{same-or-not, pick-yes, pick-no}
 use Rattle.count.proofs.Lists.{table-getD}
+use Rattle.answers.specs.Lent.{laid}
 use Rattle.words.specs.Brackets.{Balanced, mate, next, step}
 use Rattle.words.specs.declared.family.Family.{Family}
 use Rattle.words.specs.declared.family.Family.the-variants.{Round as round, Square as square}
@@ -25,7 +26,6 @@ use Rattle.words.proofs.Crossing.{mate-own, mate-else, crossing-below}
 use Rattle.bits.specs.Strings.{bit}
 use Rattle.bits.proofs.Laws.{bit-below-2}
 use Rattle.drawing.specs.Drawing.{border, isMarked}
-use Rattle.drawing.specs.Laid.{laid}
 use Rattle.format.specs.Bytes.{sizeIn, bitsA, partA, familyBit, wordIn}
 use Rattle.format.specs.Open.{openRefusal}
 use Rattle.format.specs.Pack.{endIn, positionIn, drawingOf}

@@ -1,3 +1,2 @@
--- Unpacking a packed map: what an answer means, and what the list of ends holds on the way.
-pub mod Answers
+-- Unpacking a packed map: what the list of ends holds on the way.
 pub mod Ended

@@ -1,5 +1,5 @@
 // The end at each position of the word, in one pass: borders are numbered as their first places come.
-use bits::wide;
+use lending::wide;
 use layout::bits_a;
 ghost use mathlib.Core.Path.{_≡_};
 ghost use Prim.Native.Nat.{_+_, _<_, _≤_};

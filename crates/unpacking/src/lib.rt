@@ -14,9 +14,7 @@
 // The source is document 01, "Tour and packed map", and its table, rows 8 to 12 and 16, with document 02,
 // 6/14. The drawing of a word is defined in the crate `format`; specs/Answers.antt says what an answer
 // means, and the crate `drawing`, specs/Laid.antt, what the lists hold after it.
-mod answers;
 mod ends;
 mod lists;
 
-pub use answers::Unpacked;
 pub use lists::unpack;

@@ -1,7 +1,7 @@
 // Unpacking into lent lists: the map is read once into lists of its mates and its ends, and the drawing is written from them.
-use crate::answers::Unpacked;
+use answers::Unpacked;
 use crate::ends::write_ends;
-use bits::wide;
+use lending::wide;
 use layout::bits_a;
 use layout::borders;
 use layout::part_a;
@@ -12,21 +12,22 @@ ghost use Prim.Native.Nat.{_<_, _≤_};
 ghost use lib.Dec.{eqb};
 ghost use lib.ListN.{length};
 ghost use Rattle.count.specs.Below.{pick};
-ghost use Rattle.drawing.specs.Drawing.{mostEnds};
-ghost use Rattle.drawing.specs.Laid.{bordersOf, laid, turningAfter, marksAfter};
+ghost use Rattle.answers.specs.Answer.{told};
+ghost use Rattle.answers.specs.Lent.{laid, leaves};
+ghost use Rattle.answers.specs.Means.{unpackedMeans};
+ghost use Rattle.drawing.specs.Drawing.{mostEnds, borders, Drawing};
 ghost use Rattle.format.specs.Bytes.{sizeIn, bitsA, wordIn};
 ghost use Rattle.format.specs.Open.{openRefusal};
 ghost use Rattle.format.specs.Pack.{drawingOf, unpackOf};
 ghost use Rattle.surveying.specs.Surveyed.{Mates};
-ghost use Rattle.unpacking.specs.Answers.{unpackedMeans};
 ghost use Rattle.unpacking.specs.Ended.{Ends};
 
 // Writes the drawing of the map and answers m, or declines: opening's checks, then 16: "lists under 2m or m entries".
 pub fn unpack(map: &[u8], turning: &mut [u16], marks: &mut [u8]) -> Unpacked
-    ensures { λ r. ⌜ unpackedMeans r ≡ bordersOf (unpackOf (now (map .entry)) (length (now (turning .entry))) (length (now (marks .entry)))) ⌝ }
-    ensures { λ r. ⌜ now (turning .exit) ≡ turningAfter
+    ensures { λ r. ⌜ unpackedMeans r ≡ told borders (unpackOf (now (map .entry)) (length (now (turning .entry))) (length (now (marks .entry)))) ⌝ }
+    ensures { λ r. ⌜ now (turning .exit) ≡ leaves (λ (D : Drawing). laid (D .turning))
         (unpackOf (now (map .entry)) (length (now (turning .entry))) (length (now (marks .entry)))) (now (turning .entry)) ⌝ }
-    ensures { λ r. ⌜ now (marks .exit) ≡ marksAfter
+    ensures { λ r. ⌜ now (marks .exit) ≡ leaves (λ (D : Drawing). laid (D .marks))
         (unpackOf (now (map .entry)) (length (now (turning .entry))) (length (now (marks .entry)))) (now (marks .entry)) ⌝ }
 {
     let k = opening::refusal(map);

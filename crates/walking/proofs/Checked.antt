@@ -7,10 +7,10 @@ use mathlib.Core.Path.{_≡_}
 use mathlib.Core.List.{List}
 use Prim.Native.Nat.{ℕ, _-_}
 use native.Mathlib.Omega.{arith}
-use Rattle.opening.specs.declared.answers.Cell.{Cell}
 use Rattle.opening.specs.Cells.{kindOf, numberOfCell}
 use Rattle.opening.specs.Checks.{placeRefusal, cellRefusal}
 use Rattle.opening.proofs.Passed.{place-passes, cell-passes}
+use Rattle.opening.specs.declared.cells.Cell.{Cell}
 use Rattle.walking.specs.Positions.{Position, Numbered}
 use Rattle.walking.proofs.Decoded.{places-most}
 

@@ -32,8 +32,8 @@ use Rattle.bits.specs.Strings.{bit, rank, select, brackets}
 use Rattle.format.specs.Bytes.{sizeIn, bitsA, bitsB, partA, partB, familyBit, wordIn}
 use Rattle.format.specs.Open.{openRefusal}
 use Rattle.format.specs.Calls.{familyOfKind}
-use Rattle.opening.specs.declared.answers.Cell.{Cell}
 use Rattle.opening.specs.Cells.{kindOf, numberOfCell}
+use Rattle.opening.specs.declared.cells.Cell.{Cell}
 use Rattle.walking.specs.Positions.{Position, Numbered}
 use Rattle.walking.proofs.Decoded.{places-most, seen-neither, nested, mate-ranks, number-ranks, first-ranks}
 use Rattle.format.proofs.Openings.{openings-ranks, cells-openings}

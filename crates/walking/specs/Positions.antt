@@ -10,8 +10,8 @@ use Rattle.drawing.specs.Drawing.{mostEnds}
 use Rattle.format.specs.Bytes.{sizeIn, bitsA}
 use Rattle.format.specs.Open.{openRefusal}
 use Rattle.format.specs.Calls.{cellsIn}
-use Rattle.opening.specs.declared.answers.Cell.{Cell}
 use Rattle.opening.specs.Cells.{kindOf, numberOfCell}
+use Rattle.opening.specs.declared.cells.Cell.{Cell}
 
 pub record Position (s : List ℕ) (p : ℕ) : Type 0 where
   pub opens : openRefusal s ≡ 0

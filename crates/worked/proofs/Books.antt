@@ -2,8 +2,8 @@
 -- borders of the triangle count as one neighbour, and the stub's area is no neighbour of its own. Assumes nothing.
 use mathlib.Core.Path.{_≡_, refl}
 use mathlib.Core.List.{List, [], _∷_}
-use Rattle.drawing.specs.Drawing.{Kind}
-use Rattle.drawing.specs.Session.{Call, answer, refused}
+use Rattle.answers.specs.Answer.{answer, refused, Kind}
+use Rattle.drawing.specs.Session.{Call}
 use Rattle.drawing.specs.Book.{bookSession, bookFirst, bookSize, bookNeighbours, bookJoining}
 use Rattle.format.specs.Calls.{mapSession, firstOf, sizeOf, neighboursOf, joiningOf}
 use Rattle.worked.specs.Cases.{empty, stub, enclave, enclaveMap, triangle, triangleMap}

@@ -2,8 +2,7 @@
 -- Assumes nothing.
 use mathlib.Core.Path.{_≡_, refl}
 use mathlib.Core.List.{List, [], _∷_}
-use Rattle.drawing.specs.Drawing.{Kind}
-use Rattle.drawing.specs.Session.{answer, refusedWith, refused}
+use Rattle.answers.specs.Answer.{answer, refusedWith, refused, Kind}
 use Rattle.format.specs.Bytes.{longest}
 use Rattle.format.specs.Before.{refusalBefore}
 use Rattle.format.specs.Calls.{crossOf, firstOf, sizeOf, joiningOf}

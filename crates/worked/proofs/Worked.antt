@@ -2,8 +2,8 @@
 use mathlib.Core.Path.{_≡_, refl}
 use mathlib.Core.List.{List}
 use Prim.Native.Nat.{ℕ}
-use Rattle.drawing.specs.Drawing.{Kind, cells}
-use Rattle.drawing.specs.Session.{answer, refused}
+use Rattle.answers.specs.Answer.{answer, refused, Kind}
+use Rattle.drawing.specs.Drawing.{cells}
 use Rattle.format.specs.Calls.{crossOf, turnOf, pointOf, areaOf, sizeOf}
 use Rattle.format.specs.Open.{openOf}
 use Rattle.text.specs.Input.{readText}

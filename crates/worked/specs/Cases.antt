@@ -7,8 +7,8 @@
 -- Assumes nothing.
 use mathlib.Core.List.{List, [], _∷_}
 use Prim.Native.Nat.{ℕ, _*_}
+use Rattle.answers.specs.Answer.{Answer}
 use Rattle.drawing.specs.Drawing.{Drawing, borders}
-use Rattle.drawing.specs.Session.{Answer}
 use Rattle.format.specs.Bytes.{longest}
 use Rattle.format.specs.Pack.{packOf}
 use Rattle.text.specs.Decimal.{codes}

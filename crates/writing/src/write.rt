@@ -5,9 +5,9 @@ use touring::border_in;
 ghost use mathlib.Core.Path.{_≡_};
 ghost use Prim.Native.Nat.{_*_, _<_, _≤_};
 ghost use lib.ListN.{length};
+ghost use Rattle.answers.specs.Lent.{laid};
 ghost use Rattle.words.specs.Word.{sameFamily};
 ghost use Rattle.words.specs.declared.family.Family.the-variants.{Round as round};
-ghost use Rattle.drawing.specs.Laid.{laid};
 ghost use Rattle.format.specs.Bytes.{longest};
 ghost use Rattle.writing.specs.Writing.{wordAt, chartBytes, Legible, Sized};
 

@@ -1,7 +1,7 @@
 -- `giving::cells::give_left` meets its contract. Assumes nothing.
 use borrow.Author.Needs.{needs}
-use Rattle.drawing.specs.Session.{numberOf}
-use Rattle.giving.specs.Cells.{cellAfter}
+use Rattle.answers.specs.Answer.{numberOf}
+use Rattle.answers.specs.Lent.{leaves, itself}
 use Rattle.giving.proofs.cells.give_left.Statement.{statement}
 use Rattle.giving.proofs.cells.give_left.Tie as tie
 
@@ -12,11 +12,11 @@ enum-known-a-2 : tie.Need-enum-known-a-2
 enum-known-a-2 c = search needs
 
 returns : tie.Need-returns
-unfolding numberOf cellAfter
+unfolding numberOf leaves
 returns c = (search needs, search needs)
 
 returns-2 : tie.Need-returns-2
-unfolding numberOf cellAfter
+unfolding numberOf leaves
 returns-2 c = (search needs, search needs)
 
 pub give-left-spec : {M : Type 1} → statement M

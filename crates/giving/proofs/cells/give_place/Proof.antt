@@ -1,7 +1,7 @@
 -- `giving::cells::give_place` meets its contract. Assumes nothing.
 use borrow.Author.Needs.{needs}
-use Rattle.drawing.specs.Session.{numberOf}
-use Rattle.giving.specs.Cells.{cellAfter}
+use Rattle.answers.specs.Answer.{numberOf}
+use Rattle.answers.specs.Lent.{leaves, itself}
 use Rattle.giving.proofs.Values.{value-all}
 use Rattle.giving.proofs.cells.give_place.Statement.{statement}
 use Rattle.giving.proofs.cells.give_place.Tie as tie
@@ -16,11 +16,11 @@ enum-known-a-2 : tie.Need-enum-known-a-2
 enum-known-a-2 c = search needs
 
 returns : tie.Need-returns
-unfolding numberOf cellAfter
+unfolding numberOf leaves
 returns c = search needs
 
 returns-2 : tie.Need-returns-2
-unfolding numberOf cellAfter
+unfolding numberOf leaves
 returns-2 c = search needs
 
 pub give-place-spec : {M : Type 1} → statement M

@@ -1,7 +1,7 @@
 -- `giving::packed::give_length` meets its contract. Assumes nothing.
 use mathlib.Core.Path.{sym, ap, _∙_}
 use borrow.Author.Needs.{needs}
-use Rattle.giving.specs.Cells.{cellAfter}
+use Rattle.answers.specs.Lent.{leaves, itself}
 use Rattle.giving.specs.Desk.{returned}
 use Rattle.giving.proofs.Values.{pair-values, value-all}
 use Rattle.giving.proofs.packed.give_length.Statement.{statement}
@@ -28,15 +28,15 @@ cast-result : tie.Need-cast-result
 cast-result c = search needs
 
 returns : tie.Need-returns
-unfolding cellAfter
+unfolding leaves
 returns c = (search needs, search needs)
 
 returns-2 : tie.Need-returns-2
-unfolding cellAfter
+unfolding leaves
 returns-2 c = (c .seven .ensures ∙ sym (ap returned (c .before .before .p2 .given .1)), search needs)
 
 returns-3 : tie.Need-returns-3
-unfolding cellAfter
+unfolding leaves
 returns-3 c = (search needs, search needs)
 
 pub give-length-spec : {M : Type 1} → statement M

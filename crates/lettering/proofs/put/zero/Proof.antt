@@ -1,7 +1,7 @@
 -- `lettering::put::zero` meets its contract. The loop keeps `Filled`: the first entries are 0, the rest as before. Assumes nothing.
 use native.Mathlib.Omega.{arith}
 use Prim.Native.Nat.{_-_}
-use Rattle.bits.proofs.Stores.{Filled, clear-all}
+use Rattle.lending.proofs.Clearing.{Filled, clear-all}
 use Rattle.lettering.proofs.put.zero.Statement.{statement}
 use Rattle.lettering.proofs.put.zero.Tie as tie
 

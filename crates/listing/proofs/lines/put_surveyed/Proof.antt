@@ -2,7 +2,7 @@
 -- running count of `running-rank`. Assumes nothing.
 use Prim.Native.Nat.{_-_}
 use borrow.Author.Needs.{needs}
-use Rattle.listing.proofs.Running.{counts-le, kind-read}
+use Rattle.text.proofs.Running.{counts-le, kind-read}
 use Rattle.listing.proofs.Listed.{Lined, lined-start, lined-position, lined-room, lined-fits, lined-step, lined-end}
 use Rattle.listing.proofs.lines.put_surveyed.Statement.{statement}
 use Rattle.listing.proofs.lines.put_surveyed.Tie as tie

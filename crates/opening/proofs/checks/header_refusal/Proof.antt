@@ -1,5 +1,5 @@
 -- `opening::checks::header_refusal` meets its contract. Assumes nothing.
-use Rattle.refusals.proofs.Steps.{stops-at, passes-all}
+use Rattle.answers.proofs.Steps.{stops-at, passes-all}
 use Rattle.opening.specs.Checks.{headerChecks, headerRefusal}
 use Rattle.opening.proofs.Rows.{passes, fails}
 use borrow.Author.Needs.{needs}

@@ -1,6 +1,6 @@
 -- `opening::checks::refusal` meets its contract. Assumes nothing.
 use mathlib.Core.Path.{refl}
-use Rattle.refusals.proofs.Steps.{first-stops, none-found, next-stops, next-passes}
+use Rattle.answers.proofs.Steps.{first-stops, none-found, next-stops, next-passes}
 use Rattle.format.specs.Open.{openRefusal}
 use Rattle.opening.specs.Checks.{headerChecks, stringChecks, headerRefusal}
 use Rattle.opening.proofs.Rows.{passes, fails, bytes-open}

@@ -3,7 +3,7 @@ use mathlib.Core.Path.{sym, ap, _∙_}
 use native.Mathlib.Omega.{arith}
 use lib.Seq.{length-take-le}
 use borrow.Author.Needs.{needs}
-use Rattle.reading.specs.Answers.{parsedMeans}
+use Rattle.answers.specs.Means.{parsedMeans}
 use Rattle.printing.proofs.Stands.{stands-as}
 use Rattle.printout.proofs.Denoted.{Denoted, read-denoted, denoted-printed, declined-printed}
 use Rattle.printout.proofs.print.places.Statement.{statement}

@@ -3,7 +3,7 @@ use mathlib.Core.Path.{sym}
 use native.Mathlib.Omega.{arith}
 use lib.Seq.{length-take-le}
 use borrow.Author.Needs.{needs}
-use Rattle.drawing.specs.Laid.{lent}
+use Rattle.drawing.specs.Drawing.{lent}
 use Rattle.printing.proofs.Stands.{stands-as}
 use Rattle.printout.proofs.Mapped.{Mapped, map-mapped, crossing-prints, declined-prints}
 use Rattle.printout.proofs.print.places_of.Statement.{statement}

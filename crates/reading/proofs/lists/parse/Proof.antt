@@ -1,7 +1,7 @@
 -- `reading::lists::parse` meets its contract. Assumes nothing.
 use mathlib.Core.Path.{sym, ap, _∙_}
 use borrow.Author.Needs.{needs}
-use Rattle.reading.specs.Answers.{parsedMeans}
+use Rattle.answers.specs.Means.{parsedMeans}
 use Rattle.text.specs.Input.{names}
 use Rattle.reading.proofs.Whole.{parse-unnamed, parse-declined, parse-reads, parse-answers}
 use Rattle.reading.proofs.lists.parse.Statement.{statement}

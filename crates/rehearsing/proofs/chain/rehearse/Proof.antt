@@ -2,7 +2,7 @@
 use mathlib.Core.Path.{sym}
 use lib.Seq.{length-take-le}
 use borrow.Author.Needs.{needs}
-use Rattle.drawing.specs.Laid.{lent}
+use Rattle.drawing.specs.Drawing.{lent}
 use Rattle.rehearsing.proofs.Chained.{Packing, map-within, session-rehearsed, crossing-rehearsed, declined-rehearsed}
 use Rattle.rehearsing.proofs.chain.rehearse.Statement.{statement}
 use Rattle.rehearsing.proofs.chain.rehearse.Tie as tie

@@ -1,0 +1,2 @@
+-- Lists that are lent: the laws of filling them.
+pub mod Clearing

@@ -1,2 +1,0 @@
--- Standard input and output of a program: definitions.
-pub mod Heard

@@ -1,1 +1,0 @@
-// A theory crate: definitions in specs/, laws in proofs/, no code.

@@ -1,0 +1,32 @@
+// Whole sessions on a packed map, from raw bytes.
+//
+//     session   a first number and a list of calls: every answer in order, and the place left at the end
+//     CROSS, TURN, TURN_BACK, ALONG, POINT, AREA   the codes of the calls
+//     NO_CALL   the number of the refusal where a byte is the code of no call
+//
+// Conventions. A call is lent as its code, one byte. The first number is any number. For call i, entry i of
+// `statuses` is 0 or the number of its refusal, entry i of `answers` its answer, 0 where it is refused; the
+// entries beyond the calls stay as they were. The whole session is declined by opening's checks, where the bytes
+// do not open, by 2, where a lent list is shorter than the list of calls, and by NO_CALL. Then nothing is
+// written. No function asks anything of its caller.
+//
+// The bytes are checked once, before the first call. Where there are many calls, one pass over the map then finds
+// the mate, the area and the point of every place, in lists on the stack (the crate `surveying`), and each call
+// looks up in them; few calls walk through the bytes.
+//
+// The source is document 01, "The drawing's book": "A session is a first number and a list of calls"; "on the
+// packed map too the place passes from call to call as in the book". specs/Codes.antt has the codes,
+// specs/Runs.antt what `session` answers and what the lists hold after it; a session itself is `mapSession` of
+// the crate `format`.
+mod calls;
+mod codes;
+mod runs;
+
+pub use codes::ALONG;
+pub use codes::AREA;
+pub use codes::CROSS;
+pub use codes::NO_CALL;
+pub use codes::POINT;
+pub use codes::TURN;
+pub use codes::TURN_BACK;
+pub use runs::session;
