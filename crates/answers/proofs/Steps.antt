@@ -17,6 +17,7 @@
 -- checked-answers  == the same of a call whose own answer may be a refusal
 -- Refusals, by-refusals == what holds of every number with what it carries holds of the refusal that comes out
 -- checked-same     == answers that are the same where the checks pass
+-- checked-answered, checked-refused == a call that runs the checks of another one first
 -- Assumes nothing.
 use mathlib.Core.Path.{_≡_, refl, sym, ap, _∙_}
 use mathlib.Core.Bool.{Bool, true, false, _&&_}
@@ -209,3 +210,19 @@ checked-same (c ∷ cs) a b e = go (c .test) refl (checked-same cs a b)
     go : (t : Bool) → c .test ≡ t → ((refusalIn cs ≡ 0 → a ≡ b) → checked cs a ≡ checked cs b) → checked (c ∷ cs) a ≡ checked (c ∷ cs) b
     go true h rest = rw h (rest (λ z. e (rw h z)))
     go false h rest = rw h
+
+-- what a call answers that runs the same checks first
+pub checked-answered : {A B : Type 0} (cs : List Check) (a : Answer B) (x y : A) → after cs x ≡ answer y → checked cs a ≡ a
+checked-answered cs a x y e = sym (answers-all cs a (answered-all cs x y e .0))
+
+pub checked-refused : {A B : Type 0} (cs : List Check) (a : Answer B) (x : A) (k : ℕ) (xs : List ℕ) → after cs x ≡ refusedWith k xs → checked cs a ≡ refusedWith k xs
+checked-refused [] a x k xs e = let z : _≡_ {A = ℕ} 0 1 = cc in absurd (omega arith)
+checked-refused {A} {B} (c ∷ cs) a x k xs e = go (c .test) refl (checked-refused cs a x k xs)
+  where
+    go : (t : Bool) → c .test ≡ t → (after cs x ≡ refusedWith k xs → checked cs a ≡ refusedWith k xs) → checked (c ∷ cs) a ≡ refusedWith k xs
+    go true h rest = rw h (rest (rw h at e))
+    go false h rest =
+        let same : _≡_ {A = Answer A} (refusedWith (c .number) (c .carries)) (refusedWith k xs) = rw h at e in
+        let n : c .number ≡ k = cc in
+        let m : c .carries ≡ xs = cc in
+        rw (h, n, m)

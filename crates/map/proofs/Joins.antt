@@ -9,28 +9,22 @@ use mathlib.Core.List.{List}
 use Prim.Native.Nat.{ℕ, _-_}
 use Rattle.count.specs.Below.{pick}
 use Rattle.answers.specs.Answer.{Answer, answer, refused, Kind}
+use Rattle.answers.specs.Checks.{checked}
 use Rattle.format.specs.Bytes.{sizeIn, wordIn}
-use Rattle.format.specs.Calls.{isNumber, joiningOf}
-use Rattle.format.proofs.Passes.{opened}
+use Rattle.format.specs.Calls.{isNumber, cellChecks, joiningOf}
 use Rattle.opening.specs.Checks.{cellRefusal}
 use Rattle.opening.proofs.Passed.{cell-declines, cell-answers}
 use Rattle.searching.specs.Joined.{joinedIn}
 
 -- ---- what is answered: two tests, one number
-picked-both : (x y : Bool) (a z : Answer ℕ) → pick (x && y) a z ≡ pick x (pick y a z) z
-picked-both true y a z = refl
-picked-both false y a z = refl
-
 module _ (s : List ℕ) (u v o : ℕ) (e : o ≡ cellRefusal s Kind.point u) where
   -- the answer once u is known to be a point, by the test of v
   own : Bool → Answer ℕ
   own t = pick t (answer (joinedIn s u v)) (refused 14)
 
-  join-as : opened s (pick (isNumber (sizeIn s) Kind.point u) (own (isNumber (sizeIn s) Kind.point v)) (refused 14)) ≡ joiningOf s u v
+  join-as : checked (cellChecks s Kind.point u) (own (isNumber (sizeIn s) Kind.point v)) ≡ joiningOf s u v
   unfolding joiningOf wordIn own
-  join-as =
-      ap (opened s)
-      (sym (picked-both (isNumber (sizeIn s) Kind.point u) (isNumber (sizeIn s) Kind.point v) (answer (joinedIn s u v)) (refused 14)))
+  join-as = refl
 
   pub join-declines : (o ≡ 0 → ⊥) → refused o ≡ joiningOf s u v
   join-declines m = cell-declines s Kind.point u o e (own (isNumber (sizeIn s) Kind.point v)) m ∙ join-as

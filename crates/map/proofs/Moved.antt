@@ -21,11 +21,11 @@ use Rattle.opening.proofs.Passed.{place-declines, place-answers}
 
 module _ (s : List ℕ) (i k : ℕ) (e : k ≡ placeRefusal s i) (c : Call) where
   pub move-declines : (k ≡ 0 → ⊥) → refused k ≡ mapAnswer s c i
-  unfolding mapAnswer atPlace wordIn
+  unfolding mapAnswer
   move-declines m = place-declines s i k e (answer (moveIn (wordIn s) c (pred i))) m
 
   pub move-answers : (r : ℕ) → k ≡ 0 → r ≡ moveIn (wordIn s) c (i - 1) → answer r ≡ mapAnswer s c i
-  unfolding mapAnswer atPlace wordIn
+  unfolding mapAnswer
   move-answers r z h =
       let p : i - 1 ≡ pred i = omega arith in
       ap answer (h ∙ ap (moveIn (wordIn s) c) p) ∙ place-answers s i k e (answer (moveIn (wordIn s) c (pred i))) z

@@ -12,7 +12,7 @@ use Prim.Native.Nat.{ℕ, _≤_}
 use lib.Dec.{ltb, leb}
 use lib.ListN.{drop}
 use Rattle.count.specs.Below.{pick}
-use Rattle.answers.specs.Checks.{Check, numbered}
+use Rattle.answers.specs.Checks.{Check, checked, numbered}
 use Rattle.answers.proofs.Steps.{tests-passed, none-append, checked-none, checked-some}
 use Rattle.answers.specs.Answer.{Answer, answer, refused, Kind, noSuch}
 use Rattle.format.specs.Bytes.{sizeIn, bitsA}
@@ -40,12 +40,12 @@ module _ (s : List ℕ) (i k : ℕ) (e : k ≡ placeRefusal s i) where
       let r = range-has i (bitsA (sizeIn s)) (h .1) in
       (h .0, r .0, r .1)
 
-  pub place-declines : (a : Answer ℕ) → (k ≡ 0 → ⊥) → refused k ≡ opened s (pick (ltb 0 i && leb i (bitsA (sizeIn s))) a (refused 13))
-  unfolding opened placeRefusal
+  pub place-declines : (a : Answer ℕ) → (k ≡ 0 → ⊥) → refused k ≡ checked (placeChecks s i) a
+  unfolding placeRefusal
   place-declines a m = ap refused e ∙ sym (checked-some (placeChecks s i) a refl (λ z. m (e ∙ z)))
 
-  pub place-answers : (a : Answer ℕ) → k ≡ 0 → a ≡ opened s (pick (ltb 0 i && leb i (bitsA (sizeIn s))) a (refused 13))
-  unfolding opened placeRefusal
+  pub place-answers : (a : Answer ℕ) → k ≡ 0 → a ≡ checked (placeChecks s i) a
+  unfolding placeRefusal
   place-answers a z = sym (checked-none (placeChecks s i) a refl (sym e ∙ z))
 
 -- ---- points and areas
@@ -71,10 +71,10 @@ module _ (s : List ℕ) (c : Kind) (k o : ℕ) (e : o ≡ cellRefusal s c k) whe
       let r = range-has k (cellsIn (sizeIn s) c) (h .1) in
       (h .0, r .0, r .1)
 
-  pub cell-declines : {A : Type 0} (a : Answer A) → (o ≡ 0 → ⊥) → refused o ≡ opened s (pick (isNumber (sizeIn s) c k) a (refused (noSuch c)))
-  unfolding opened cellRefusal
+  pub cell-declines : {A : Type 0} (a : Answer A) → (o ≡ 0 → ⊥) → refused o ≡ checked (cellChecks s c k) a
+  unfolding cellRefusal
   cell-declines a m = ap refused e ∙ sym (checked-some (cellChecks s c k) a refl (λ z. m (e ∙ z)))
 
-  pub cell-answers : {A : Type 0} (a : Answer A) → o ≡ 0 → a ≡ opened s (pick (isNumber (sizeIn s) c k) a (refused (noSuch c)))
-  unfolding opened cellRefusal
+  pub cell-answers : {A : Type 0} (a : Answer A) → o ≡ 0 → a ≡ checked (cellChecks s c k) a
+  unfolding cellRefusal
   cell-answers a z = sym (checked-none (cellChecks s c k) a (numbered-own s c k) (sym e ∙ z))

@@ -26,7 +26,7 @@ use Rattle.drawing.specs.Checks.{lengthsFit}
 use Rattle.drawing.proofs.Checks.{lengths-decides}
 use Rattle.format.specs.Bytes.{longest}
 use Rattle.format.specs.Open.{openRefusal}
-use Rattle.format.proofs.Passes.{opened-opens}
+use Rattle.format.proofs.Passes.{after-opens}
 use Rattle.format.specs.Pack.{roomFits, packedBytes, packChecks, packRefusal, packOf}
 use Rattle.text.specs.Listing.{refusedLine, listed, packed, printed}
 use Rattle.answers.specs.declared.cases.Packed.the-variants as the-case
@@ -67,7 +67,7 @@ pub record Mapped (D : Drawing) (n : ℕ) (map : List ℕ) : Type 0 where
 
 bytes-print : (s : List ℕ) → openRefusal s ≡ 0 → printed s ≡ listed (answer s)
 unfolding printed
-bytes-print s o = ap listed (opened-opens s (answer s) o)
+bytes-print s o = ap listed (after-opens s s o)
 
 module _ (D : Drawing) (work out : ℕ) (long : 12288 ≤ work) (wide : longest ≤ out) (r : Packed) (e : packedMeans r ≡ told length (packOf D work out)) where
   pub map-mapped : (n : ℕ) (old map : List ℕ) → r ≡ the-case.Length n → map ≡ leaves laid (packOf D work out) old → Mapped D n map

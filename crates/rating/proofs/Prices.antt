@@ -22,7 +22,7 @@ use Rattle.opening.proofs.Passed.{cell-passes, cell-declines, cell-answers}
 use Rattle.tariff.specs.declared.factor.Factor.{Factor}
 use Rattle.tariff.specs.declared.factor.Running.{Running}
 use Rattle.tariff.specs.Tariff.{held, factorAt, TariffFits, tariffFits, hasFactor, mean, worth, sumAcross, rated}
-use Rattle.tariff.specs.Maps.{factorOf}
+use Rattle.tariff.specs.Maps.{factorIn, factorOf}
 use Rattle.tariff.proofs.Lists.{tariff-decides}
 use Rattle.pricing.specs.Lists.{InLists}
 use Rattle.pricing.proofs.Laws.{not-is}
@@ -51,12 +51,12 @@ module _ (s kinds : List ℕ) (values : List Float) (k o : ℕ) (e : o ≡ cellR
   areasOf = cellsIn (sizeIn s) Kind.area
 
   pub factor-declines : (o ≡ 0 → ⊥) → refused o ≡ Answered
-  unfolding factorOf
+  unfolding factorOf factorIn rated
   factor-declines d = cell-declines s Kind.area k o e (rated areasOf kinds values k (landingsIn (wordIn s) k)) d
 
   module _ (z : o ≡ 0) (v : ℕ) (hv : v ≡ sizeIn s .m + 2 - sizeIn s .n) (t : Bool) (ht : t ≡ tariffFits v kinds values) where
     after-area : rated areasOf kinds values k (landingsIn (wordIn s) k) ≡ Answered
-    unfolding factorOf
+    unfolding factorOf factorIn rated
     after-area = cell-answers s Kind.area k o e (rated areasOf kinds values k (landingsIn (wordIn s) k)) z
 
     fit-test : tariffFits areasOf kinds values ≡ t

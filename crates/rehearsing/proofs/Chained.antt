@@ -12,12 +12,13 @@ use lib.ListN.{length, take}
 use Rattle.answers.specs.Answer.{Answer, answer, refusedWith, told}
 use Rattle.answers.specs.Means.{packedMeans, ranMeans}
 use Rattle.answers.specs.declared.cases.Packed.{Packed}
-use Rattle.answers.specs.Checks.{after, checked}
+use Rattle.answers.specs.Checks.{Check, after}
+use Rattle.answers.proofs.Steps.{checked-answered, checked-refused}
 use Rattle.answers.specs.Lent.{laid, leaves}
 use Rattle.answers.specs.declared.cases.Ran.{Ran}
 use Rattle.drawing.specs.Drawing.{Drawing}
 use Rattle.drawing.specs.Session.{Outcome}
-use Rattle.format.specs.Pack.{packOf}
+use Rattle.format.specs.Pack.{packedBytes, packChecks, packOf}
 use Rattle.format.specs.Packs.{Packs}
 use Rattle.format.specs.Sessions.{callsOf, runChecks, ranOf, statusesOf, valuesOf}
 use Rattle.demands.specs.Rehearsal.{bookRanOf, rehearsalOf, Lists, rehearsed, Rehearses}
@@ -33,7 +34,7 @@ pub packed-session : (D : Drawing) (w o : ℕ) (s : List ℕ) → packOf D w o �
 unfolding bookRanOf
 packed-session D w o s e i ks k l =
     let A : Agrees D s = demand-3 D w o s e in
-    ran-opens s i ks k l (A .opens .passes) ∙ ap (runOf ks k l) (A .sessions .same i (callsOf ks))
+    ran-opens s i ks k l (A .opens .passes) ∙ ap (after (runChecks ks k l)) (A .sessions .same i (callsOf ks))
 
 -- ---- what `rehearse` returns
 -- what packing ensures, of the lists of a rehearsal
@@ -43,6 +44,9 @@ pub record Packing (D : Drawing) (old : Lists) (work out : List ℕ) (r : Packed
 module _ {D : Drawing} {old : Lists} {work out : List ℕ} {r : Packed} (P : Packing D old work out r) where
   abbrev packing : Answer (List ℕ)
   packing = packOf D (length (old .work)) (length (old .out))
+
+  abbrev checks : List Check
+  checks = packChecks D (length (old .work)) (length (old .out))
 
   accepted-here : (n : ℕ) → r ≡ packed.Length n → Accepted packing n out
   accepted-here n e = accepted n (old .out) out packing (sym (ap packedMeans e) ∙ P .packs .answers) (P .packs .leaves .output)
@@ -61,13 +65,13 @@ module _ {D : Drawing} {old : Lists} {work out : List ℕ} {r : Packed} (P : Pac
     pub session-rehearsed : (n : ℕ) → r ≡ packed.Length n → (x : Ran) (st an : List ℕ)
         → ranMeans x ≡ told (λ (o : Outcome). o .place) (ran n) → st ≡ leaves (λ (o : Outcome). laid (statusesOf o)) (ran n) (old .statuses) → an ≡ leaves (λ (o : Outcome). laid (valuesOf o)) (ran n) (old .answers)
         → Rehearses D first ks (the-case.Session n x) old (record { work = work; out = out; statuses = st; answers = an })
-    unfolding rehearsalOf
+    unfolding rehearsalOf packOf leaves
     session-rehearsed n e x st an hx hs ha =
         let A = accepted-here n e in
         let runs : ran n ≡ book
         = ap (λ s. ranOf s first ks (length (old .statuses)) (length (old .answers))) (A .bytes)
         ∙ packed-session D (length (old .work)) (length (old .out)) (A .map) (A .is) first ks (length (old .statuses)) (length (old .answers)) in
-        let is : ran n ≡ rehearsed D first ks old = runs ∙ sym (ap (λ a. afterPacking a book) (A .is)) in
+        let is : ran n ≡ rehearsed D first ks old = runs ∙ sym (checked-answered checks book (packedBytes D) (A .map) (A .is)) in
         record {
           packs = rw (ap packedMeans e) at (P .packs);
           means = hx ∙ ap (told (λ (o : Outcome). o .place)) is;
@@ -77,10 +81,10 @@ module _ {D : Drawing} {old : Lists} {work out : List ℕ} {r : Packed} (P : Pac
 
     refused-rehearsed : (j : ℕ) (xs : List ℕ) → packedMeans r ≡ refusedWith j xs
         → Rehearses D first ks (the-case.NotPacked r) old (record { work = work; out = out; statuses = old .statuses; answers = old .answers })
-    unfolding rehearsalOf
+    unfolding rehearsalOf packOf leaves
     refused-rehearsed j xs e =
         let is : refusedWith j xs ≡ rehearsed D first ks old
-        = sym (ap (λ a. afterPacking a book) (declined j xs packing (sym e ∙ P .packs .answers))) in
+        = sym (checked-refused checks book (packedBytes D) j xs (declined j xs packing (sym e ∙ P .packs .answers))) in
         record {
           packs = P .packs;
           means = e ∙ ap (told (λ (o : Outcome). o .place)) is;

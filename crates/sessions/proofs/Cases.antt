@@ -28,6 +28,6 @@ pub record Cases : Type 0 where
   pub no-call : ranOf triangleMap 1 (0 ∷ 6 ∷ []) 2 2 ≡ refused 255
 
 pub cases : Cases
-unfolding ranOf callOf numberOf valueOf
+unfolding ranOf callOf numberOf valueOf leaves
 cases =
     record { six = refl; round = refl; round-statuses = refl; round-answers = refl; outside = refl; closed = refl; short = refl; no-call = refl }

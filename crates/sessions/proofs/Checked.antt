@@ -20,15 +20,14 @@ use Rattle.answers.specs.Checks.{after}
 use Rattle.answers.specs.Lent.{laid, leaves}
 use Rattle.drawing.specs.Session.{Outcome}
 use Rattle.format.specs.Open.{openRefusal}
-use Rattle.format.proofs.Passes.{opened-opens, opened-declines}
+use Rattle.format.proofs.Passes.{opened-opens, opened-declines, opened}
 use Rattle.format.specs.Calls.{mapSession}
 use Rattle.format.specs.Sessions.{callsOf, areCalls, noCall, runChecks, ranOf, statusesOf, valuesOf}
 use Rattle.sessions.specs.Runs.{Leaves}
 
 -- ---- the checks 2 and `noCall`
 module _ (ks : List ℕ) (k l : ℕ) (o : Outcome) where
-  pub run-short : (length ks ≤ k → length ks ≤ l → ⊥) → runOf ks k l o ≡ refused 2
-  unfolding runOf
+  pub run-short : (length ks ≤ k → length ks ≤ l → ⊥) → after (runChecks ks k l) o ≡ refused 2
   run-short n =
       sym (refuses-at (runChecks ks k l) (answer o) 0 tt
       (not-both (leb (length ks) k) (leb (length ks) l) (λ g h. n (leb-true (length ks) k g) (leb-true (length ks) l h))))
@@ -37,31 +36,31 @@ module _ (ks : List ℕ) (k l : ℕ) (o : Outcome) where
     room : leb (length ks) k && leb (length ks) l ≡ true
     room = both (leb (length ks) k) (leb (length ks) l) (le-leb (length ks) k g) (le-leb (length ks) l h)
 
-    pub run-no-call : areCalls ks ≡ false → runOf ks k l o ≡ refused noCall
-    unfolding runOf
+    pub run-no-call : areCalls ks ≡ false → after (runChecks ks k l) o ≡ refused noCall
     run-no-call e = sym (refuses-at (runChecks ks k l) (answer o) 1 (room, tt) e)
 
-    pub run-answers : areCalls ks ≡ true → runOf ks k l o ≡ answer o
-    unfolding runOf
+    pub run-answers : areCalls ks ≡ true → after (runChecks ks k l) o ≡ answer o
     run-answers e = sym (answers-all (runChecks ks k l) (answer o) (room, (e, tt)))
 
 -- ---- after opening's
 module _ (s : List ℕ) (first : ℕ) (ks : List ℕ) (k l : ℕ) where
-  pub ran-opens : openRefusal s ≡ 0 → ranOf s first ks k l ≡ runOf ks k l (mapSession s first (callsOf ks))
-  unfolding ranOf
-  ran-opens e = opened-opens s (runOf ks k l (mapSession s first (callsOf ks))) e
+  pub ran-opens : openRefusal s ≡ 0 → ranOf s first ks k l ≡ after (runChecks ks k l) (mapSession s first (callsOf ks))
+  unfolding ranOf opened
+  ran-opens e = opened-opens s (after (runChecks ks k l) (mapSession s first (callsOf ks))) e
 
   ran-declines : (openRefusal s ≡ 0 → ⊥) → ranOf s first ks k l ≡ refused (openRefusal s)
-  unfolding ranOf
-  ran-declines n = opened-declines s (runOf ks k l (mapSession s first (callsOf ks))) n
+  unfolding ranOf opened
+  ran-declines n = opened-declines s (after (runChecks ks k l) (mapSession s first (callsOf ks))) n
 
 -- ---- what is answered, and what the lists hold
 module _ (a : Answer Outcome) (st an : List ℕ) where
   given-declined : (j : ℕ) → a ≡ refused j → (refused j ≡ told (λ (o : Outcome). o .place) a) × ((st ≡ leaves (λ (o : Outcome). laid (statusesOf o)) a st) × (an ≡ leaves (λ (o : Outcome). laid (valuesOf o)) a an))
+  unfolding leaves
   given-declined j e = (ap (told (λ (o : Outcome). o .place)) (sym e), (ap (λ x. leaves (λ (o : Outcome). laid (statusesOf o)) x st) (sym e), ap (λ x. leaves (λ (o : Outcome). laid (valuesOf o)) x an) (sym e)))
 
   given-run : (o : Outcome) (p : ℕ) (st′ an′ : List ℕ) → a ≡ answer o → Leaves o p st an st′ an′
       → (answer p ≡ told (λ (o : Outcome). o .place) a) × ((st′ ≡ leaves (λ (o : Outcome). laid (statusesOf o)) a st) × (an′ ≡ leaves (λ (o : Outcome). laid (valuesOf o)) a an))
+  unfolding leaves
   given-run o p st′ an′ e L = (
     ap answer (L .place) ∙ ap (told (λ (o : Outcome). o .place)) (sym e),
     (L .statuses ∙ ap (λ x. leaves (λ (o : Outcome). laid (statusesOf o)) x st) (sym e), L .answers ∙ ap (λ x. leaves (λ (o : Outcome). laid (valuesOf o)) x an) (sym e)),
@@ -75,7 +74,7 @@ module _ (s : List ℕ) (first : ℕ) (ks st an : List ℕ) (j : ℕ) (e : j ≡
   session-declines n = given-declined ran st an j (ran-declines s first ks (length st) (length an) (λ z. n (e ∙ z)) ∙ ap refused (sym e))
 
   module _ (z : j ≡ 0) where
-    opens : ran ≡ runOf ks (length st) (length an) (mapSession s first (callsOf ks))
+    opens : ran ≡ after (runChecks ks (length st) (length an)) (mapSession s first (callsOf ks))
     opens = ran-opens s first ks (length st) (length an) (sym e ∙ z)
 
     short : (length ks ≤ length st → length ks ≤ length an → ⊥) → (refused 2 ≡ told (λ (o : Outcome). o .place) ran) × ((st ≡ leaves (λ (o : Outcome). laid (statusesOf o)) ran st) × (an ≡ leaves (λ (o : Outcome). laid (valuesOf o)) ran an))

@@ -25,7 +25,7 @@ use Rattle.words.specs.Word.{seen, crossing}
 use Rattle.drawing.specs.Session.{Call, isMove, placeAfter}
 use Rattle.format.specs.Bytes.{sizeIn, bitsA, wordIn}
 use Rattle.format.specs.Open.{openRefusal}
-use Rattle.format.proofs.Passes.{opened-opens}
+use Rattle.format.proofs.Passes.{opened-opens, opened}
 use Rattle.format.specs.Calls.{moveIn, mapAnswer}
 use Rattle.format.proofs.Small.{move-small}
 use Rattle.format.specs.Sessions.{callOf}
@@ -61,7 +61,7 @@ stay-code k l =
 -- ---- a call at a number
 module _ (s : List ℕ) (o : openRefusal s ≡ 0) (c : Call) (i : ℕ) where
   call-opens : mapAnswer s c i ≡ pick (ltb 0 i && leb i (bitsA (sizeIn s))) (answer (moveIn (wordIn s) c (pred i))) (refused 13)
-  unfolding mapAnswer atPlace wordIn
+  unfolding mapAnswer atPlace wordIn opened
   call-opens = opened-opens s (pick (ltb 0 i && leb i (bitsA (sizeIn s))) (answer (moveIn (wordIn s) c (pred i))) (refused 13)) o
 
   call-inside : 0 < i → i ≤ bitsA (sizeIn s) → mapAnswer s c i ≡ answer (moveIn (wordIn s) c (i - 1))

@@ -20,7 +20,7 @@ use Rattle.answers.specs.Lent.{laid, leaves}
 use Rattle.drawing.specs.Drawing.{Drawing, borders}
 use Rattle.format.specs.Bytes.{sizeIn, wordIn}
 use Rattle.format.specs.Open.{openRefusal}
-use Rattle.format.proofs.Passes.{opened-opens, opened-declines}
+use Rattle.format.proofs.Passes.{opened-opens, opened-declines, opened}
 use Rattle.format.specs.Pack.{drawingOf, unpackOf}
 use Rattle.roundtrip.proofs.Drawing.{drawing-half}
 use Rattle.unpacking.proofs.Placed.{nested-in}
@@ -33,6 +33,7 @@ Outcome s t k a t′ k′ =
 
 module _ (s t k : List ℕ) (o : ℕ) (e : o ≡ openRefusal s) where
   declined : (x : ℕ) → unpackOf s (length t) (length k) ≡ refused x → Outcome s t k (refused x) t k
+  unfolding leaves
   declined x h = (sym (ap (told borders) h), (sym (ap (λ a. leaves (λ (D : Drawing). laid (D .turning)) a t) h), sym (ap (λ a. leaves (λ (D : Drawing). laid (D .marks)) a k) h)))
 
   -- the lists have room
@@ -40,11 +41,11 @@ module _ (s t k : List ℕ) (o : ℕ) (e : o ≡ openRefusal s) where
   roomy = leb (2 * sizeIn s .m) (length t) && leb (sizeIn s .m) (length k)
 
   pub unpack-declines : (o ≡ 0 → ⊥) → Outcome s t k (refused o) t k
-  unfolding unpackOf
+  unfolding unpackOf opened
   unpack-declines m = declined o (opened-declines s _ (λ z. m (e ∙ z)) ∙ ap refused (sym e))
 
   own : o ≡ 0 → unpackOf s (length t) (length k) ≡ pick roomy (answer (drawingOf (wordIn s))) (refused 16)
-  unfolding unpackOf roomy
+  unfolding unpackOf roomy opened
   own z = opened-opens s (pick roomy (answer (drawingOf (wordIn s))) (refused 16)) (sym e ∙ z)
 
   short : o ≡ 0 → roomy ≡ false → Outcome s t k (refused 16) t k
@@ -65,7 +66,7 @@ module _ (s t k : List ℕ) (o : ℕ) (e : o ≡ openRefusal s) where
 
     pub unpack-answers : (t′ k′ : List ℕ) → 2 * m ≤ length t → m ≤ length k
         → t′ ≡ laid (drawingOf (wordIn s) .turning) t → k′ ≡ laid (drawingOf (wordIn s) .marks) k → Outcome s t k (answer m) t′ k′
-    unfolding roomy wordIn
+    unfolding roomy wordIn leaves
     unpack-answers t′ k′ a b ht hk =
         let D = drawingOf (wordIn s) in
         let r : roomy ≡ true
