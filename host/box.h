@@ -32,7 +32,7 @@ static inline const char *what_is_wrong(uint8_t status)
         return "the card is cut short or too long: its length is not the one that its header gives";
     case PMAP_UNUSED_BIT:
         return "the card is damaged: a bit that is not in use is 1";
-    case PMAP_MARKS:
+    case PMAP_ONES:
         return "the card is damaged: its tree has not one border less than there are points";
     case PMAP_BRACKETS:
         return "the card is damaged: the first and second places of its borders don't pair up";

@@ -22,7 +22,7 @@
  * pmap_unpack have to do with drawings.
  *
  * Status. Every function returns 0 (PMAP_OK) and writes its answer, or it returns the number of the first check that
- * fails, in the order of the list below, and then it has written nothing: every out cell and every out list holds what
+ * fails, in the order of the list below, and then it has written nothing: every out slot and every out list holds what
  * it held before. Every call on a map runs the checks 8, 20, 9, 10, 11, 12 on the whole map first, in this order, so that
  * pmap_session tests 2 after them. pmap_pack returns two border numbers beside the status. It and pmap_marks say what they
  * leave in their working lists.
@@ -30,9 +30,9 @@
  * Memory. `map` points to map_len readable bytes, with no alignment asked for; it may be NULL if map_len is 0. So it is
  * with every list: turning_len, marks_len, work_len, out_len, calls_len, statuses_len, answers_len, kinds_len and values_len
  * count entries, the list may be NULL if it has none, and lists of uint16_t and of double are aligned as such. The functions
- * only read what is const. Out cells are not NULL and are aligned as what they hold: uint16_t, but *place of pmap_session as
+ * only read what is const. Out slots are not NULL and are aligned as what they hold: uint16_t, but *place of pmap_session as
  * size_t and *out of pmap_factor as double. All memory stays the caller's: nothing is kept, freed or handed over. The lists
- * and the cells that are lent to one call must not overlap one another, and no other thread may write any of them during the
+ * and the slots that are lent to one call must not overlap one another, and no other thread may write any of them during the
  * call, or read those that are not const.
  *
  * Doubles. Only pmap_factor has to do with them. A double is a binary64 of IEEE 754. The thread that calls must round to
@@ -76,7 +76,7 @@ enum {
     PMAP_AREAS = 20,       /* the count of areas in the header is not m-n+2; tested between 8 and 9 */
     PMAP_LENGTH = 9,       /* map_len is not the length that the header gives */
     PMAP_UNUSED_BIT = 10,  /* a bit that belongs to no string is 1 */
-    PMAP_MARKS = 11,       /* the string A has not 2n-2 ones */
+    PMAP_ONES = 11,        /* the string A has not 2n-2 ones */
     PMAP_BRACKETS = 12,    /* the string B or B* is not balanced */
     PMAP_NO_PLACE = 13,    /* place is not 1 to 2m */
     PMAP_NO_POINT = 14,    /* point is not 1 to n */

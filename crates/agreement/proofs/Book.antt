@@ -24,7 +24,7 @@ use Rattle.count.proofs.Logic.{true-or-false, both-left, both-right, bool-same}
 use Rattle.answers.specs.Answer.{Answer, answer, refused, Kind, noSuch}
 use Rattle.words.specs.Brackets.{Bracket, step, number, first}
 use Rattle.words.specs.declared.family.Family.the-variants.{Round as round, Square as square}
-use Rattle.words.specs.Word.{seen, crossing}
+use Rattle.words.specs.Word.{seen, mateIn}
 use Rattle.words.proofs.Step.{step-below}
 use Rattle.words.proofs.Numbers.{openings}
 use Rattle.words.proofs.Sizes.{first-below}
@@ -87,7 +87,7 @@ module _ {D : Drawing} (T : Toured D) where
   book-session i cs = session-same (bookAnswer D) (atPlace (wordOf D)) book-call i cs
 
   -- the point (area) across a place: the number at its other end
-  lands-agree : (c : Kind) (p : ℕ) → p < ends D → numberAt D c (other (endAt D p)) ≡ number (cellWord D c) (crossing (wordOf D) p)
+  lands-agree : (c : Kind) (p : ℕ) → p < ends D → numberAt D c (other (endAt D p)) ≡ number (cellWord D c) (mateIn (wordOf D) p)
   lands-agree c p l =
       ap (numberAt D c) (sym (end-other T p l)) ∙ number-agrees T c (partner D p) (partner-below T p l)
       ∙ ap (number (cellWord D c)) (cross-mate T p l)
@@ -99,7 +99,7 @@ module _ {D : Drawing} (T : Toured D) where
   join-agrees v (suc j) p some =
       let l : p < ends D = some (omega arith) in
       let b : ℕ → Bracket = seen round (wordOf D) in
-      let lands : numberAt D Kind.point (other (endAt D p)) ≡ number b (crossing (wordOf D) p)
+      let lands : numberAt D Kind.point (other (endAt D p)) ≡ number b (mateIn (wordOf D) p)
       = lands-agree Kind.point p l in
       let here : placeOf D (endAt D p) ≡ suc p = ap suc (T .meets .position-end p l) in
       let rest : joinFrom D v j (turn D (endAt D p)) ≡ joinIn (wordOf D) v j (step b (ends D) p)
@@ -140,7 +140,7 @@ module _ {D : Drawing} (T : Toured D) where
   unfolding bookNeighbours neighboursIn wordOf
   book-neighbours k =
       ap₂ (λ (t : Bool) (x : ℕ). pick t (answer x) (refused 15)) (numbers-agree Kind.area k)
-      (neighbours-same (numberAt D Kind.area) other (number (cellWord D Kind.area)) (crossing (wordOf D)) (endAt D) (positionOf D) (ends D)
+      (neighbours-same (numberAt D Kind.area) other (number (cellWord D Kind.area)) (mateIn (wordOf D)) (endAt D) (positionOf D) (ends D)
       (T .meets .end-below) (T .meets .position-below) (T .meets .end-position)
       (number-agrees T Kind.area) (lands-agree Kind.area) (cells D Kind.area) k)
 
@@ -149,7 +149,7 @@ module _ {D : Drawing} (T : Toured D) where
   book-landings k =
       let b : ℕ → Bracket = cellWord D Kind.area in
       ap₂ (λ (d p : ℕ). landings (numberAt D Kind.area) other (around D Kind.area) d (endAt D p)) (size-agrees T Kind.area k) (first-agrees T Kind.area k)
-      ∙ landings-same (numberAt D Kind.area) other (around D Kind.area) (number b) (crossing (wordOf D)) (step b (ends D)) (endAt D) (ends D)
+      ∙ landings-same (numberAt D Kind.area) other (around D Kind.area) (number b) (mateIn (wordOf D)) (step b (ends D)) (endAt D) (ends D)
       (lands-agree Kind.area) (around-end T Kind.area) (step-below b (ends D) (word-balanced T square))
       (placesIn (wordOf D) Kind.area k) (first b (ends D) k) (first-end Kind.area k)
 

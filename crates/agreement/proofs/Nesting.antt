@@ -24,7 +24,7 @@ use Rattle.count.proofs.Logic.{lt-or-ge, true-or-false, pick-yes, pick-no}
 use Rattle.words.specs.Brackets.{opens, closes, neither, Balanced, mate}
 use Rattle.words.specs.declared.family.Family.{Family}
 use Rattle.words.specs.declared.family.Family.the-variants.{Round as round, Square as square}
-use Rattle.words.specs.Word.{sameFamily, seen, crossing}
+use Rattle.words.specs.Word.{sameFamily, seen, mateIn}
 use Rattle.words.proofs.Letters.{opens-not-closes, opens-not-neither, closes-not-neither}
 use Rattle.words.proofs.Unique.{Pairing, pairing-balanced, mate-unique}
 use Rattle.drawing.specs.Drawing.{Drawing, ends, border, other, isMarked, endAt, positionOf}
@@ -169,8 +169,8 @@ module _ {D : Drawing} (T : Toured D) where
     pub mate-partner : (p : ℕ) → p < ends D → mate (seen K (wordOf D)) (ends D) p ≡ partnerIn D K p
     mate-partner p l = mate-unique (seen K (wordOf D)) (ends D) (partnerIn D K) word-pairing p l
 
-  pub cross-mate : (p : ℕ) → p < ends D → positionOf D (other (endAt D p)) ≡ crossing (wordOf D) p
-  unfolding crossing wordOf
+  pub cross-mate : (p : ℕ) → p < ends D → positionOf D (other (endAt D p)) ≡ mateIn (wordOf D) p
+  unfolding mateIn wordOf
   cross-mate p l =
       let K : Family = familyOf (isMarked D (border (endAt D p))) in
       sym (mate-partner K p l ∙ partner-in K p (own-family (isMarked D (border (endAt D p)))))

@@ -16,7 +16,7 @@ use Rattle.drawing.specs.Checks.{PassesSix, PassesSeven, Alternate, markCount}
 use Rattle.drawing.proofs.Ends.{turn-permutes, border-below}
 use Rattle.tours.specs.Tour.{MeetsAll}
 use Rattle.tours.proofs.Theorems.{passes-meets, tree-nests}
-use Rattle.format.specs.Bytes.{sizeIn, mapBytes}
+use Rattle.format.specs.Bytes.{sizeIn}
 use Rattle.format.specs.Fits.{Fits}
 use Rattle.format.specs.Open.{openRefusal, Opens}
 use Rattle.format.specs.Pack.{wordOf, sizeFor, packedBytes}

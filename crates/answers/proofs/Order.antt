@@ -12,19 +12,19 @@
 -- Assumes nothing.
 use mathlib.Core.Path.{_≡_, refl, sym, ap, ap₂, _∙_}
 use mathlib.Core.Logic.{_⊎_, inl, inr, _↔_}
-use mathlib.Core.Bool.{Bool, true, false, _&&_, _||_, not}
+use mathlib.Core.Bool.{Bool, true, false, _||_, not}
 use mathlib.Core.List.{List, [], _∷_, _++_}
 use Prim.Native.Nat.{ℕ, zero, suc, _<_}
 use native.Mathlib.Omega.{arith}
 use lib.Dec.{eqb, ltb}
 use lib.ListN.{length}
 use borrow.Author.Tests.{ltb-true, eqb-true, eq-eqb}
-use Rattle.count.specs.Below.{Decides, all}
+use Rattle.count.specs.Below.{all}
 use Rattle.count.proofs.Logic.{lt-or-ge, both-left, both-right, one-of, true-not-false}
 use Rattle.count.proofs.Search.{all-has}
 use Rattle.count.proofs.Decides.{decides-refutes}
 use Rattle.answers.specs.Answer.{Answer, answer, refusedWith}
-use Rattle.answers.specs.Checks.{Check, unless, refusalIn, checked, after, checkAt, Hold, FirstFails, InOrder, Decided, numbered}
+use Rattle.answers.specs.Checks.{Check, refusalIn, checked, after, checkAt, Hold, FirstFails, InOrder, Decided, numbered}
 
 abbrev pub Each : List Check → Type 0
 Each [] = Unit

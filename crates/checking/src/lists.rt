@@ -1,6 +1,6 @@
 // What one pass over each list tells: lengths, ranges, marks.
-use lending::wide;
 use format::MOST_ENDS;
+use lending::wide;
 ghost use mathlib.Core.Path.{_≡_};
 ghost use mathlib.Core.List.{List};
 ghost use Prim.Native.Nat.{ℕ, _≤_, _<_, max};

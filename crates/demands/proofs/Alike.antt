@@ -20,13 +20,13 @@ use Rattle.answers.specs.Answer.{answer, refused, Kind}
 use Rattle.words.specs.Brackets.{Bracket, Balanced, mate, step, number, first}
 use Rattle.words.specs.declared.family.Family.{Family}
 use Rattle.words.specs.declared.family.Family.the-variants.{Round as round, Square as square}
-use Rattle.words.specs.Word.{Letter, Word, seen, crossing, view}
+use Rattle.words.specs.Word.{Letter, Word, seen, mateIn, view}
 use Rattle.words.proofs.Step.{step-below}
 use Rattle.words.proofs.Same.{mate-same, step-same, back-same, number-same, isFirst-same, isLast-same, first-same, size-same}
 use Rattle.drawing.specs.Session.{Call}
 use Rattle.drawing.specs.Neighbours.{landings}
 use Rattle.drawing.proofs.Neighbours.{neighbours-same, landings-same}
-use Rattle.words.proofs.Crossing.{crossing-below}
+use Rattle.words.proofs.Mates.{mate-in-below}
 use Rattle.words.proofs.Sizes.{first-below}
 use Rattle.format.specs.Calls.{familyOfKind, moveIn, firstIn, placesIn, neighboursIn, landingsIn, joinIn}
 use Rattle.format.proofs.Places.{atPlace}
@@ -44,15 +44,15 @@ module _ (n : ℕ) (f g : ℕ → Letter) (same : (p : ℕ) → p < n → f p �
   unfolding seen
   seen-same K p l = ap (view K) (same p l)
 
-  pub crossing-same : (p : ℕ) → p < n → crossing (word n f) p ≡ crossing (word n g) p
-  unfolding crossing
-  crossing-same p l =
+  pub mate-in-same : (p : ℕ) → p < n → mateIn (word n f) p ≡ mateIn (word n g) p
+  unfolding mateIn
+  mate-in-same p l =
       mate-same (seen (f p .family) (word n f)) (seen (f p .family) (word n g)) n (seen-same (f p .family)) p l
       ∙ ap (λ x. mate (seen (x .family) (word n g)) n p) (same p l)
 
   move-same : (c : Call) (p : ℕ) → p < n → moveIn (word n f) c p ≡ moveIn (word n g) c p
   unfolding moveIn
-  move-same Call.cross p l = ap suc (crossing-same p l)
+  move-same Call.cross p l = ap suc (mate-in-same p l)
   move-same Call.turn p l =
       rw (
         isLast-same (seen round (word n f)) (seen round (word n g)) n (seen-same round) p l,
@@ -93,9 +93,9 @@ module _ (n : ℕ) (f g : ℕ → Letter) (same : (p : ℕ) → p < n → f p �
 
 -- one place more of the search, as a choice by its test
 join-step : (w : Word) (v k p : ℕ) → joinIn w v (suc k) p
-    ≡ pick (eqb (number (seen round w) (crossing w p)) v) (suc p) (joinIn w v k (step (seen round w) (w .size) p))
+    ≡ pick (eqb (number (seen round w) (mateIn w p)) v) (suc p) (joinIn w v k (step (seen round w) (w .size) p))
 unfolding joinIn
-join-step w v k p = chosen (eqb (number (seen round w) (crossing w p)) v)
+join-step w v k p = chosen (eqb (number (seen round w) (mateIn w p)) v)
   where
     chosen : (t : Bool) → _≡_ {A = ℕ} (elim t [ true ↦ suc p | false ↦ joinIn w v k (step (seen round w) (w .size) p) ])
         (pick t (suc p) (joinIn w v k (step (seen round w) (w .size) p)))
@@ -105,11 +105,11 @@ join-step w v k p = chosen (eqb (number (seen round w) (crossing w p)) v)
 module _ (n : ℕ) (f g : ℕ → Letter) (same : (p : ℕ) → p < n → f p ≡ g p) (nested : (K : Family) → Balanced (seen K (word n g)) n) where
   -- the point (area) across a place
   lands-same : (K : Family) (p : ℕ) → p < n
-      → number (seen K (word n f)) (crossing (word n f) p) ≡ number (seen K (word n g)) (crossing (word n g) p)
+      → number (seen K (word n f)) (mateIn (word n f) p) ≡ number (seen K (word n g)) (mateIn (word n g) p)
   lands-same K p l =
-      let q : ℕ = crossing (word n g) p in
-      let below : q < n = crossing-below (word n g) nested p l in
-      ap (number (seen K (word n f))) (crossing-same n f g same p l)
+      let q : ℕ = mateIn (word n g) p in
+      let below : q < n = mate-in-below (word n g) nested p l in
+      ap (number (seen K (word n f))) (mate-in-same n f g same p l)
       ∙ number-same (seen K (word n f)) (seen K (word n g)) n (seen-same n f g same K) q (omega arith)
 
   -- the next place about a point (along an area), which is a place too
@@ -123,10 +123,10 @@ module _ (n : ℕ) (f g : ℕ → Letter) (same : (p : ℕ) → p < n → f p �
   join-same v zero p some = unfold joinIn in refl
   join-same v (suc k) p some =
       let l : p < n = some (omega arith) in
-      let q : ℕ = crossing (word n g) p in
+      let q : ℕ = mateIn (word n g) p in
       let at : ℕ = step (seen round (word n g)) n p in
       let next : joinIn (word n f) v k at ≡ joinIn (word n g) v k at = join-same v k at (λ s. moves-below round p l) in
-      let here : number (seen round (word n f)) (crossing (word n f) p) ≡ number (seen round (word n g)) q = lands-same round p l in
+      let here : number (seen round (word n f)) (mateIn (word n f) p) ≡ number (seen round (word n g)) q = lands-same round p l in
       let moves : step (seen round (word n f)) n p ≡ at = moves-same round p l in
       join-step (word n f) v k p
       ∙ ap (λ x. pick (eqb x v) (suc p) (joinIn (word n f) v k (step (seen round (word n f)) n p))) here
@@ -141,7 +141,7 @@ module _ (n : ℕ) (f g : ℕ → Letter) (same : (p : ℕ) → p < n → f p �
       let area′ : ℕ → ℕ = number (seen square (word n g)) in
       let alike-area : (p : ℕ) → p < n → area p ≡ area′ p
       = λ p l. number-same (seen square (word n f)) (seen square (word n g)) n (seen-same n f g same square) p (omega arith) in
-      neighbours-same area (crossing (word n f)) area′ (crossing (word n g)) (λ p. p) (λ p. p) n
+      neighbours-same area (mateIn (word n f)) area′ (mateIn (word n g)) (λ p. p) (λ p. p) n
       (λ p l. l) (λ p l. l) (λ p l. refl) alike-area (lands-same square) v k
 
   landings-alike : (k : ℕ) → landingsIn (word n f) k ≡ landingsIn (word n g) k
@@ -149,9 +149,9 @@ module _ (n : ℕ) (f g : ℕ → Letter) (same : (p : ℕ) → p < n → f p �
   landings-alike k =
       let b : ℕ → Bracket = seen square (word n f) in
       let c : ℕ → Bracket = seen square (word n g) in
-      ap₂ (λ (d p : ℕ). landings (number b) (crossing (word n f)) (step b n) d p) (places-alike n f g same Kind.area k)
+      ap₂ (λ (d p : ℕ). landings (number b) (mateIn (word n f)) (step b n) d p) (places-alike n f g same Kind.area k)
       (first-same b c n (seen-same n f g same square) k)
-      ∙ landings-same (number b) (crossing (word n f)) (step b n) (number c) (crossing (word n g)) (step c n) (λ p. p) n
+      ∙ landings-same (number b) (mateIn (word n f)) (step b n) (number c) (mateIn (word n g)) (step c n) (λ p. p) n
       (lands-same square) (moves-same square) (moves-below square) (placesIn (word n g) Kind.area k) (first c n k) (first-below c n k)
 
 -- any two words that are alike are words of one size

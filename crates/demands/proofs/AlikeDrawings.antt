@@ -2,28 +2,26 @@
 --
 -- alike-drawing == one size, the same letters, balanced: the same drawing
 -- Assumes nothing.
-use mathlib.Core.Path.{_≡_, refl, sym, ap, ap₂, _∙_, subst}
-use mathlib.Core.Logic.{_⊎_, inl, inr}
-use mathlib.Core.Bool.{Bool, true, false, not}
-use Prim.Native.Nat.{ℕ, zero, suc, _+_, _*_, _/_, _≤_, _<_}
+use mathlib.Core.Path.{_≡_, sym, ap, _∙_, subst}
+use mathlib.Core.Bool.{not}
+use Prim.Native.Nat.{ℕ, _+_, _*_, _/_, _≤_, _<_}
 use native.Mathlib.Omega.{arith}
 use lib.Dec.{eqb}
-use Rattle.count.specs.Below.{pick, count, table}
+use Rattle.count.specs.Below.{pick}
 use Rattle.count.proofs.Counts.{count-same}
 use Rattle.count.proofs.Search.{find-same}
 use Rattle.count.proofs.Lists.{table-same}
 use Rattle.words.specs.Brackets.{Balanced, step}
 use Rattle.words.specs.declared.family.Family.{Family}
 use Rattle.words.specs.declared.family.Family.the-variants.{Round as round}
-use Rattle.words.specs.Word.{Letter, Word, seen, crossing}
+use Rattle.words.specs.Word.{Letter, Word, seen, mateIn}
 use Rattle.words.proofs.Step.{step-below}
 use Rattle.words.proofs.Same.{step-same}
-use Rattle.drawing.specs.Drawing.{Drawing}
 use Rattle.format.specs.Bytes.{familyBit}
 use Rattle.format.specs.Pack.{opensBefore, endIn, positionIn, drawingOf}
-use Rattle.words.proofs.Crossing.{crossing-below}
+use Rattle.words.proofs.Mates.{mate-in-below}
 use Rattle.roundtrip.proofs.Ends.{position-in-below}
-use Rattle.demands.proofs.Alike.{Alike, word, seen-same, crossing-same}
+use Rattle.demands.proofs.Alike.{Alike, word, seen-same, mate-in-same}
 
 module _ (n : ℕ) (f g : ℕ → Letter) (same : (p : ℕ) → p < n → f p ≡ g p) (nested : (K : Family) → Balanced (seen K (word n g)) n) where
   opens-same : (p : ℕ) → p ≤ n → opensBefore (word n f) p ≡ opensBefore (word n g) p
@@ -34,9 +32,9 @@ module _ (n : ℕ) (f g : ℕ → Letter) (same : (p : ℕ) → p < n → f p �
   end-same : (p : ℕ) → p < n → endIn (word n f) p ≡ endIn (word n g) p
   unfolding endIn
   end-same p l =
-      let below : crossing (word n g) p < n = crossing-below (word n g) nested p l in
-      let at : opensBefore (word n f) (crossing (word n f) p) ≡ opensBefore (word n g) (crossing (word n g) p) =
-      ap (opensBefore (word n f)) (crossing-same n f g same p l) ∙ opens-same (crossing (word n g) p) (omega arith) in
+      let below : mateIn (word n g) p < n = mate-in-below (word n g) nested p l in
+      let at : opensBefore (word n f) (mateIn (word n f) p) ≡ opensBefore (word n g) (mateIn (word n g) p) =
+      ap (opensBefore (word n f)) (mate-in-same n f g same p l) ∙ opens-same (mateIn (word n g) p) (omega arith) in
       λ i. pick (same p l i .closing) (2 * at i + 1) (2 * opens-same p (omega arith) i)
 
   position-same : (h : ℕ) → positionIn (word n f) h ≡ positionIn (word n g) h

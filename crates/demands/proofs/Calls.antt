@@ -5,7 +5,6 @@
 use mathlib.Core.Path.{_≡_, ap}
 use mathlib.Core.List.{List, [], _∷_, head-eq-of-cons-eq}
 use Prim.Native.Nat.{ℕ}
-use Rattle.answers.specs.Answer.{Answer}
 use Rattle.drawing.specs.Drawing.{Drawing}
 use Rattle.drawing.specs.Session.{Call, Outcome, session}
 use Rattle.drawing.specs.Book.{bookAnswer, bookSession}

@@ -1,10 +1,10 @@
 -- The definitions of the statements on document 01's triangle and its case (b), by computation. Assumes nothing.
 use mathlib.Core.Path.{_≡_, refl}
-use mathlib.Core.Logic.{inl, inr}
+use mathlib.Core.Logic.{inr}
 use mathlib.Core.List.{List, [], _∷_}
 use Prim.Native.Nat.{ℕ}
 use Rattle.answers.specs.Lent.{leaves}
-use Rattle.words.specs.Word.{seen, crossing}
+use Rattle.words.specs.Word.{seen, mateIn}
 use Rattle.drawing.specs.Drawing.{Drawing, lent}
 use Rattle.format.specs.Bytes.{wordIn, sizeIn}
 use Rattle.format.specs.Pack.{unpackOf}
@@ -24,5 +24,5 @@ pub record Cases : Type 0 where
   pub stub-last : LastPlace (wordIn stubMap) 0
 
 pub cases : Cases
-unfolding turanBytes unpackOf leaves sizeIn wordIn seen crossing
+unfolding turanBytes unpackOf leaves sizeIn wordIn seen mateIn
 cases = record { triangle-bytes = refl; stub-left = refl; stub-last = inr (inr (refl, refl)) }

@@ -7,10 +7,10 @@
 -- answer-is, at-place, number-range-is == an answer tells its number; the answer at a place; the numbers that the book knows, as a range
 -- Assumes nothing.
 use mathlib.Core.Path.{_≡_, refl, sym, ap, ap₂, _∙_}
-use mathlib.Core.Logic.{_≢_, _⊎_, inl, inr, _↔_, Iff·trans}
-use mathlib.Core.Bool.{Bool, true, false, _&&_, _||_}
+use mathlib.Core.Logic.{_≢_, inl, inr, _↔_, Iff·trans}
+use mathlib.Core.Bool.{Bool, true, false, _&&_}
 use mathlib.Core.List.{List}
-use Prim.Native.Nat.{ℕ, zero, suc, pred, _+_, _*_, _≤_, _<_}
+use Prim.Native.Nat.{ℕ, zero, suc, pred, _+_, _≤_, _<_}
 use native.Mathlib.Omega.{arith}
 use lib.Dec.{eqb, ltb, leb}
 use borrow.Author.Tests.{eqb-true, eq-eqb, lt-ltb, le-leb}
@@ -18,21 +18,21 @@ use Rattle.count.specs.Below.{pick, total}
 use Rattle.count.proofs.Decides.{decides-lt, decides-le, decides-both}
 use Rattle.count.proofs.Counts.{count-zero}
 use Rattle.count.proofs.Logic.{true-or-false, true-not-false, both, one-of, either-left, either-right, pick-yes, pick-no}
-use Rattle.answers.specs.Answer.{Answer, answer, refused, Kind}
+use Rattle.answers.specs.Answer.{answer, refused, Kind}
 use Rattle.orbits.specs.Cycles.{SameCycle}
 use Rattle.words.specs.Brackets.{Bracket, closes, opens, neither, isOpens, isCloses, Balanced, mate, step, back, number, inner, isFirst, isLast, first, size}
 use Rattle.words.specs.declared.family.Family.{Family}
 use Rattle.words.specs.declared.family.Family.the-variants.{Round as round}
-use Rattle.words.specs.Word.{sameFamily, Word, seen, crossing}
+use Rattle.words.specs.Word.{sameFamily, Word, seen, mateIn}
 use Rattle.words.proofs.Letters.{by-bracket, closes-not-neither}
 use Rattle.words.proofs.Mate.{mate-below, mate-opens, mate-neither}
 use Rattle.words.proofs.Numbers.{openings, number-positive, number-range, number-reached, first-inner}
 use Rattle.words.proofs.Sizes.{size-sum}
-use Rattle.drawing.specs.Drawing.{Drawing, borders, ends, around, cells, endAt, positionOf}
+use Rattle.drawing.specs.Drawing.{Drawing, ends, around, cells, endAt, positionOf}
 use Rattle.drawing.specs.Checks.{PassesSeven}
 use Rattle.drawing.specs.Session.{Call}
-use Rattle.drawing.specs.Book.{endsOn, hasNumber, numberAt, bookAnswer}
-use Rattle.format.specs.Bytes.{sizeIn, bitsA, wordIn}
+use Rattle.drawing.specs.Book.{endsOn, hasNumber, numberAt}
+use Rattle.format.specs.Bytes.{wordIn}
 use Rattle.format.specs.Open.{openRefusal}
 use Rattle.format.specs.Calls.{familyOfKind, moveIn, mapAnswer, turnOf, turnBackOf, placesIn}
 use Rattle.format.specs.Pack.{wordOf, packedBytes}
@@ -41,11 +41,11 @@ use Rattle.format.proofs.Passes.{opened}
 use Rattle.agreement.specs.Toured.{Toured}
 use Rattle.agreement.proofs.Passed.{passes-toured}
 use Rattle.agreement.proofs.Cells.{same-cell, number-agrees, size-agrees}
-use Rattle.agreement.proofs.Counts.{cells-agree, openings-round, openings-square, points-count}
+use Rattle.agreement.proofs.Counts.{cells-agree, openings-square, points-count}
 use Rattle.agreement.proofs.Nesting.{word-balanced}
 use Rattle.agreement.proofs.Steps.{cellWord}
 use Rattle.agreement.proofs.Book.{numbers-agree, book-call}
-use Rattle.words.proofs.Crossing.{mate-own, by-family}
+use Rattle.words.proofs.Mates.{mate-own, by-family}
 use Rattle.demands.specs.Statements.{CellCounts, HasNumber, LastPlace, FirstPlace, TurnZero}
 use Rattle.demands.proofs.Answers.{opens-opened, packed-call}
 
@@ -118,7 +118,7 @@ module _ (w : Word) (nested : (K : Family) → Balanced (seen K w) (w .size)) (p
   end-below = let e : pred (w .size) < w .size = omega arith in e
 
   -- the mate of the last position: the ( that it closes, or the position itself
-  last-closes : seen round w end ≡ closes → mate (seen round w) (w .size) end ≡ crossing w end
+  last-closes : seen round w end ≡ closes → mate (seen round w) (w .size) end ≡ mateIn w end
   last-closes c = mate-own w round end (closes-round w end c)
 
   last-else : seen round w end ≢ closes → mate (seen round w) (w .size) end ≡ end

@@ -8,7 +8,7 @@ use mathlib.Core.Path.{_≡_, refl, sym, ap, _∙_}
 use mathlib.Core.Logic.{_↔_, inl, inr}
 use mathlib.Core.Bool.{Bool, true, false, not, _&&_}
 use mathlib.Core.List.{List, []}
-use Prim.Native.Nat.{ℕ, zero, suc, pred, _*_, _≤_, _<_}
+use Prim.Native.Nat.{ℕ, suc, pred, _*_, _≤_, _<_}
 use native.Mathlib.Omega.{arith}
 use lib.Dec.{eqb, ltb, leb}
 use borrow.Author.Tests.{ltb-true, leb-true}
@@ -27,8 +27,8 @@ use Rattle.answers.proofs.Steps.{checked-answers}
 use Rattle.words.specs.Brackets.{Balanced, number, size}
 use Rattle.words.specs.declared.family.Family.{Family}
 use Rattle.words.specs.declared.family.Family.the-variants.{Square as square}
-use Rattle.words.specs.Word.{seen, crossing}
-use Rattle.words.proofs.Crossing.{crossing-below, crossing-involutive}
+use Rattle.words.specs.Word.{seen, mateIn}
+use Rattle.words.proofs.Mates.{mate-in-below, mate-in-involutive}
 use Rattle.format.specs.Bytes.{sizeIn, wordIn}
 use Rattle.format.specs.Open.{openChecks, openRefusal}
 use Rattle.format.specs.Calls.{moveIn, mapAnswer, crossOf, areaOf, cellsIn, isNumber, placesIn, sizeOf, neighboursIn, neighboursOf}
@@ -106,7 +106,7 @@ module _ (s : List ℕ) where
   area = number (seen square (wordIn s))
 
   abbrev crosses : ℕ → ℕ
-  crosses = crossing (wordIn s)
+  crosses = mateIn (wordIn s)
 
   asked-opens : (c : Call) (i x : ℕ) → mapAnswer s c i ≡ answer x → openRefusal s ≡ 0
   unfolding mapAnswer atPlace openRefusal
@@ -162,7 +162,7 @@ module _ (s : List ℕ) where
     nested = passes-nested s (opens-passes s o)
 
     crosses-back : (p : ℕ) → p < wordIn s .size → (crosses p < wordIn s .size) × (crosses (crosses p) ≡ p)
-    crosses-back p l = (crossing-below (wordIn s) nested p l, crossing-involutive (wordIn s) nested p l)
+    crosses-back p l = (mate-in-below (wordIn s) nested p l, mate-in-involutive (wordIn s) nested p l)
 
     map-across : (k j : ℕ) → MapAcross s k j ↔ Across area crosses (wordIn s .size) k j
     map-across k j = (

@@ -26,11 +26,11 @@ use lib.Ieee.{Float}
 use lib.ListN.{length, take}
 use Rattle.count.specs.Below.{table, gather, total}
 use Rattle.answers.specs.Lent.{laid, leaves}
-use Rattle.answers.specs.Answer.{Answer, answer, refusedWith, numberOf, Size, Kind}
+use Rattle.answers.specs.Answer.{Answer, answer, refusedWith, numberOf, Kind}
 use Rattle.orbits.specs.Cycles.{SameCycle}
 use Rattle.words.specs.Brackets.{closes, first, number}
 use Rattle.words.specs.declared.family.Family.the-variants.{Round as round}
-use Rattle.words.specs.Word.{Word, seen, crossing}
+use Rattle.words.specs.Word.{Word, seen, mateIn}
 use Rattle.drawing.specs.Drawing.{Drawing, borders, ends, border, isMarked, around, cells, endAt, isSecond, lent}
 use Rattle.drawing.specs.Renumbered.{renumbered}
 use Rattle.drawing.specs.Checks.{PassesSix, PassesSeven, Crossing, firstCrossing, FirstCrossing}
@@ -131,7 +131,7 @@ abbrev pub LastPlace : Word → ℕ → Type 0
 LastPlace w p =
     (seen round w p ≡ closes)
     ⊎ (((seen round w (pred (w .size)) ≢ closes) × (p ≡ pred (w .size)))
-    ⊎ ((seen round w (pred (w .size)) ≡ closes) × (p ≡ crossing w (pred (w .size)))))
+    ⊎ ((seen round w (pred (w .size)) ≡ closes) × (p ≡ mateIn w (pred (w .size)))))
 
 -- 01, Moves: "the point's first place", the lowest with the point's number
 abbrev pub FirstPlace : Word → ℕ → Type 0

@@ -3,7 +3,7 @@
 -- lengths-decides, entries-decides, range-decides, distinct-decides, few-decides == as the names of the checks say
 -- Assumes nothing.
 use mathlib.Core.Path.{_≡_}
-use mathlib.Core.Bool.{Bool, not}
+use mathlib.Core.Bool.{not}
 use Prim.Native.Nat.{ℕ, _*_, _<_, _≤_, max}
 use lib.ListN.{length, getD}
 use lib.Dec.{eqb, ltb, leb}

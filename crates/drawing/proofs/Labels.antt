@@ -17,19 +17,17 @@
 -- joins-unread        == neither what the marks are nor the start plays a part in it
 -- Assumes nothing.
 use mathlib.Core.Path.{_≡_, refl, sym, ap, _∙_, subst}
-use mathlib.Core.Logic.{_≢_, _⊎_, inl, inr}
+use mathlib.Core.Logic.{_≢_, inl, inr}
 use mathlib.Core.Bool.{Bool, true, false}
-use mathlib.Core.List.{List, [], _∷_, map}
+use mathlib.Core.List.{List, [], _∷_}
 use Prim.Native.Nat.{ℕ, zero, suc, _+_, _-_, _*_, _/_, _≤_, _<_}
 use native.Mathlib.Numerals.{add-one}
 use native.Mathlib.Omega.{arith}
-use native.Mathlib.Decide.{le-ind}
-use lib.ListN.{length, getD, length-map, List·getD-map}
+use lib.ListN.{length, getD, length-map}
 use lib.Dec.{eqb}
 use borrow.Author.Tests.{eq-eqb, ne-eqb}
-use Rattle.count.specs.Below.{Decides, pick, all, table}
+use Rattle.count.specs.Below.{Decides, pick, table}
 use Rattle.count.proofs.Logic.{same-or-not, true-or-false, pick-yes, pick-no}
-use Rattle.count.proofs.Search.{all-has, all-from}
 use Rattle.count.proofs.Lists.{table-length, table-getD}
 use Rattle.count.proofs.Decides.{decides-eq, decides-all, decides-as}
 use Rattle.answers.specs.Answer.{Kind}
@@ -37,7 +35,7 @@ use Rattle.orbits.specs.Cycles.{Permutes, SameCycle, low}
 use Rattle.orbits.proofs.Same.{same-cycle-induct}
 use Rattle.orbits.proofs.Low.{low-same-cycle, low-step}
 use Rattle.drawing.specs.Drawing.{Drawing, borders, ends, border, other, turn, isMarked, everyBorder, around, walk, over, cellOf, lent}
-use Rattle.drawing.specs.Checks.{Linked, here, turned, crossing, Joins, Joined, Connected, labels, relabel, mergeAt, allSame, joins, joined, connected}
+use Rattle.drawing.specs.Checks.{Linked, here, turned, across, Joins, Joined, Connected, labels, relabel, mergeAt, allSame, joins, joined, connected}
 use Rattle.drawing.proofs.Ends.{other-even, other-odd, other-border, other-below, border-below}
 
 unfoldable pub label : Drawing → (ℕ → Bool) → ℕ → ℕ → ℕ
@@ -144,18 +142,18 @@ module _ (D : Drawing) (S : ℕ → Bool) where
     unfolding ends
     linked-below g h b here = b
     linked-below g h b (turned x l) = p .below x (linked-below g x b l)
-    linked-below g h b (crossing x t l) = other-below (borders D) x (linked-below g x b l)
+    linked-below g h b (across x t l) = other-below (borders D) x (linked-below g x b l)
 
     pub linked-label : (g h : ℕ) → g < ends D → Linked D S g h → label D S (borders D) g ≡ label D S (borders D) h
     unfolding ends
     linked-label g h b here = refl
     linked-label g h b (turned x l) = linked-label g x b l ∙ sym (label-turn (borders D) x (linked-below g x b l))
-    linked-label g h b (crossing x t l) = linked-label g x b l ∙ sym (label-crosses (borders D) x (linked-below g x b l) (border-below (borders D) x (linked-below g x b l)) t)
+    linked-label g h b (across x t l) = linked-label g x b l ∙ sym (label-crosses (borders D) x (linked-below g x b l) (border-below (borders D) x (linked-below g x b l)) t)
 
     pub linked-trans : (f g h : ℕ) → Linked D S f g → Linked D S g h → Linked D S f h
     linked-trans f g h l here = l
     linked-trans f g h l (turned x k) = turned x (linked-trans f g x l k)
-    linked-trans f g h l (crossing x t k) = crossing x t (linked-trans f g x l k)
+    linked-trans f g h l (across x t k) = across x t (linked-trans f g x l k)
 
     pub cycle-linked : (g h : ℕ) → g < ends D → SameCycle (turn D) g h → Linked D S g h
     cycle-linked g h b s = same-cycle-induct p (λ x. Linked D S g x) g h (λ x bx l. turned x l) b here s
@@ -165,14 +163,14 @@ module _ (D : Drawing) (S : ℕ → Bool) where
     unfolding border
     across-even e t =
         let q : 2 * e / 2 ≡ e = omega arith in
-        let l : Linked D S (2 * e) (other (2 * e)) = crossing (2 * e) (ap S q ∙ t) here in
+        let l : Linked D S (2 * e) (other (2 * e)) = across (2 * e) (ap S q ∙ t) here in
         rw (other-even e) at l
 
     across-odd : (e : ℕ) → S e ≡ true → Linked D S (2 * e + 1) (2 * e)
     unfolding border
     across-odd e t =
         let q : (2 * e + 1) / 2 ≡ e = omega arith in
-        let l : Linked D S (2 * e + 1) (other (2 * e + 1)) = crossing (2 * e + 1) (ap S q ∙ t) here in
+        let l : Linked D S (2 * e + 1) (other (2 * e + 1)) = across (2 * e + 1) (ap S q ∙ t) here in
         rw (other-odd e) at l
 
     -- one border of S more: the labels were one already, or they were those of the border's two ends
@@ -243,8 +241,8 @@ module _ (D E : Drawing) (S T : ℕ → Bool) (p : Permutes (ends D) (turn D)) w
   linked-within same f g h b here = here
   linked-within same f g h b (turned x l) =
       subst (Linked E T g) (ap (λ ts. getD ts x 0) (sym same)) (turned x (linked-within same f g x b l))
-  linked-within same f g h b (crossing x t l) =
-      crossing x (f (border x) (border-below (borders D) x (linked-below D S p g x b l)) t) (linked-within same f g x b l)
+  linked-within same f g h b (across x t l) =
+      across x (f (border x) (border-below (borders D) x (linked-below D S p g x b l)) t) (linked-within same f g x b l)
 
 module _ (D : Drawing) (S : ℕ → Bool) (p : Permutes (ends D) (turn D)) where
   pub joins-from : ((x : ℕ) → x < ends D → Linked D S 0 x) → Joins D S

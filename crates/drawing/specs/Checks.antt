@@ -79,7 +79,7 @@ distinct D = all (λ j. all (λ i. not (eqb (turn D i) (turn D j))) j) (ends D)
 pub data Linked (D : Drawing) (S : ℕ → Bool) (g : ℕ) : ℕ → Type 0 where
   here : Linked D S g g
   turned : (h : ℕ) → Linked D S g h → Linked D S g (turn D h)
-  crossing : (h : ℕ) → S (border h) ≡ true → Linked D S g h → Linked D S g (other h)
+  across : (h : ℕ) → S (border h) ≡ true → Linked D S g h → Linked D S g (other h)
 
 pub record Joins (D : Drawing) (S : ℕ → Bool) : Type 0 where
   pub link : (g h : ℕ) → g < ends D → h < ends D → Linked D S g h

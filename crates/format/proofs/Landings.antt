@@ -18,7 +18,7 @@ use Rattle.count.proofs.Logic.{true-or-false, pick-yes, pick-no}
 use Rattle.orbits.specs.Cycles.{iter}
 use Rattle.words.specs.Brackets.{Balanced, number, step, first, size}
 use Rattle.words.specs.declared.family.Family.the-variants.{Round as round, Square as square}
-use Rattle.words.specs.Word.{Word, seen, crossing}
+use Rattle.words.specs.Word.{Word, seen, mateIn}
 use Rattle.words.proofs.Order.{about-cell}
 use Rattle.drawing.specs.Neighbours.{landings}
 use Rattle.format.specs.Calls.{placesIn, landingsIn, joinIn}
@@ -38,25 +38,25 @@ module _ (w : Word) (k : ℕ) (bal : Balanced (seen square w) (w .size)) where
   on p = eqb (number (seen square w) p) k
 
   abbrev across : ℕ → ℕ
-  across p = number (seen square w) (crossing w p)
+  across p = number (seen square w) (mateIn w p)
 
   pub landings-gather : landingsIn w k ≡ gather on across (w .size)
   unfolding landingsIn placesIn
   landings-gather =
       let b = seen square w in
       let n : ℕ = w .size in
-      landings-table (number b) (crossing w) (step b n) (first b n k) (size b n k) ∙ about-cell b n bal k across
+      landings-table (number b) (mateIn w) (step b n) (first b n k) (size b n k) ∙ about-cell b n bal k across
 
 -- ---- the joining border
 abbrev pub joins : Word → ℕ → ℕ → ℕ → Bool
-joins w u v p = eqb (number (seen round w) p) u && eqb (number (seen round w) (crossing w p)) v
+joins w u v p = eqb (number (seen round w) p) u && eqb (number (seen round w) (mateIn w p)) v
 
 -- 1 + a position below n, 0 for n
 abbrev pub placed : ℕ → ℕ → ℕ
 placed n p = pick (eqb p n) 0 (suc p)
 
 unfoldable pub joinFind : Word → ℕ → ℕ → ℕ
-unfolding find number seen crossing
+unfolding find number seen mateIn
 joinFind w u v = placed (w .size) (find (joins w u v) (w .size))
 
 -- the first of some positions that passes the test
@@ -94,7 +94,7 @@ first-gathered P T n (suc k) a e =
 
 module _ (w : Word) (v : ℕ) where
   abbrev hits : ℕ → Bool
-  hits p = eqb (number (seen round w) (crossing w p)) v
+  hits p = eqb (number (seen round w) (mateIn w p)) v
 
   join-steps : (d a p : ℕ) → joinIn w v d (iter (step (seen round w) (w .size)) a p) ≡ firstOf hits (tableFrom (λ i. iter (step (seen round w) (w .size)) i p) a d)
   unfolding joinIn tableFrom iter firstOf

@@ -20,8 +20,8 @@ use Rattle.count.proofs.Logic.{true-or-false, same-or-not}
 use Rattle.bits.specs.Strings.{bytesFor}
 use Rattle.format.specs.Bytes.{header, atAreas, sizeIn, startB, mapLength}
 use Rattle.answers.specs.Checks.{unless}
-use Rattle.format.specs.Open.{HeaderFits, SizeFits, sizeFits, areasFit, lengthFits, openRefusal, Opens}
-use Rattle.format.specs.Before.{sizeFitsBefore, lengthFitsBefore, refusalBefore, OpensBefore, OneForm}
+use Rattle.format.specs.Open.{HeaderFits, SizeFits, sizeFits, areasFit, lengthFits, openRefusal}
+use Rattle.format.specs.Before.{sizeFitsBefore, lengthFitsBefore, refusalBefore, OneForm}
 use Rattle.format.proofs.Passes.{Passes, decides-header, decides-size, opens-passes}
 
 -- what passed before the checks that follow

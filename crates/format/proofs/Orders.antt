@@ -6,8 +6,7 @@
 -- first-refusals, size-refusals, neighbours-refusals == of a point or an area
 -- joining-refusals, unpack-refusals, session-refusals == of a joining border, of unpacking, of a whole session
 -- Assumes nothing.
-use mathlib.Core.Path.{_≡_}
-use mathlib.Core.Bool.{true, _&&_}
+use mathlib.Core.Bool.{_&&_}
 use mathlib.Core.List.{List, [], _∷_, _++_}
 use Prim.Native.Nat.{ℕ, pred, _*_, _≤_}
 use lib.Dec.{ltb, leb}

@@ -11,8 +11,8 @@
 -- Assumes nothing.
 use mathlib.Core.Path.{_≡_, refl}
 use mathlib.Core.Logic.{_↔_}
-use mathlib.Core.Bool.{Bool, true}
-use mathlib.Core.List.{List, [], _∷_, _++_}
+use mathlib.Core.Bool.{true}
+use mathlib.Core.List.{List, []}
 use Prim.Native.Nat.{ℕ, _+_, _≤_}
 use native.Mathlib.Omega.{arith}
 use lib.ListN.{length}
@@ -21,7 +21,7 @@ use Rattle.count.proofs.Decides.{decides-eq, decides-le, decides-both, decides-
 use Rattle.answers.specs.Checks.{checked, after, Hold, InOrder, Decided}
 use Rattle.answers.specs.Answer.{Answer, answer, refused}
 use Rattle.answers.proofs.Steps.{checked-none, checked-some}
-use Rattle.answers.proofs.Order.{each-hold, decided-append, none-refuses, in-order}
+use Rattle.answers.proofs.Order.{each-hold, none-refuses, in-order}
 use Rattle.words.specs.Brackets.{Balanced, balanced}
 use Rattle.words.specs.declared.family.Family.{Family}
 use Rattle.words.specs.declared.family.Family.the-variants.{Round as round, Square as square}

@@ -1,7 +1,7 @@
 -- Moves through rank and select: what code computes from the three strings of bytes that open.
 --
 -- rank-most, rank-index == a rank in A is at most the length of the family's string, and below it at a letter of the family
--- crossing-ranks    == the partner of a position: rank, partner in the family's string, select
+-- mate-in-ranks    == the partner of a position: rank, partner in the family's string, select
 -- inner-ranks       == the innermost open bracket: rank, innermost open one in the family's string, select
 -- Assumes nothing.
 use mathlib.Core.Path.{_≡_, sym, _∙_, ap}
@@ -13,7 +13,7 @@ use native.Mathlib.Omega.{arith}
 use borrow.Author.Tests.{eqb-true}
 use Rattle.words.specs.Brackets.{inner, mate}
 use Rattle.words.specs.declared.family.Family.{Family}
-use Rattle.words.specs.Word.{sameFamily, seen, crossing}
+use Rattle.words.specs.Word.{sameFamily, seen, mateIn}
 use Rattle.words.proofs.Thin.{thin-inner, thin-mate}
 use Rattle.bits.specs.Strings.{bit, isBit, rank, select, brackets}
 use Rattle.bits.proofs.Laws.{rank-mono, rank-before}
@@ -36,11 +36,11 @@ module _ (s : List ℕ) (K : Family) where
       let b = eqb-true (bit (partA s) p) (familyBit K) (family-bit p f) in
       omega (arith, rank-before (familyBit K) (partA s) p (bitsA (sizeIn s)) l b, rank-all s (opens-passes s e) K)
 
-  pub crossing-ranks : openRefusal s ≡ 0 → (p : ℕ) → p < bitsA (sizeIn s) → wordIn s .letter p .family ≡ K
-      → crossing (wordIn s) p
+  pub mate-in-ranks : openRefusal s ≡ 0 → (p : ℕ) → p < bitsA (sizeIn s) → wordIn s .letter p .family ≡ K
+      → mateIn (wordIn s) p
       ≡ select (familyBit K) (partA s) (bitsA (sizeIn s)) (mate (brackets (partB K s)) (bitsB K (sizeIn s)) (rank (familyBit K) (partA s) p))
-  unfolding crossing wordIn select rank
-  crossing-ranks e p l f =
+  unfolding mateIn wordIn select rank
+  mate-in-ranks e p l f =
       let Q = opens-passes s e in
       let n = bitsA (sizeIn s) in
       ap (λ L. mate (seen L (wordIn s)) n p) f

@@ -6,8 +6,8 @@
 -- Assumes nothing.
 use mathlib.Core.Path.{_≡_, refl}
 use mathlib.Core.Logic.{inl, inr, _↔_}
-use mathlib.Core.Bool.{Bool, true, false, not}
-use mathlib.Core.List.{List, [], _∷_, _++_}
+use mathlib.Core.Bool.{true, not}
+use mathlib.Core.List.{List, [], _++_}
 use Prim.Native.Nat.{ℕ, _*_}
 use native.Mathlib.Omega.{arith}
 use lib.ListN.{take, drop}
@@ -18,7 +18,7 @@ use Rattle.answers.specs.Answer.{refusedWith}
 use Rattle.answers.specs.Checks.{Check, Hold, InOrder, Decided}
 use Rattle.answers.proofs.Order.{Each, each-hold, none-refuses, in-order, once, refused-at}
 use Rattle.drawing.specs.Drawing.{Drawing, borders}
-use Rattle.drawing.specs.Checks.{LengthsFit, lengthsFit, InRange, inRange, Distinct, distinct, joined, fewMarks, Flat, crosses, firstCrossing, FirstCrossing}
+use Rattle.drawing.specs.Checks.{Flat, crosses, FirstCrossing}
 use Rattle.drawing.specs.Checks.{PassesSix, PassesSeven}
 use Rattle.drawing.proofs.Checks.{lengths-decides, range-decides, distinct-decides, few-decides}
 use Rattle.drawing.proofs.Labels.{joined-decides}

@@ -23,7 +23,7 @@ use Rattle.answers.proofs.Steps.{none-append, by-checks}
 use Rattle.answers.specs.Answer.{Answer, answer, refused, valueOf, Kind, noSuch}
 use Rattle.words.specs.Brackets.{Bracket, opens, closes, neither, isOpens, isCloses, isFirst, isLast, inner, closer, mate, next, previous, step, back, number, first, size}
 use Rattle.words.specs.declared.family.Family.the-variants.{Round as round, Square as square}
-use Rattle.words.specs.Word.{Word, seen, crossing}
+use Rattle.words.specs.Word.{Word, seen, mateIn}
 use Rattle.words.proofs.Stack.{inner-le}
 use Rattle.drawing.specs.Session.{Call}
 use Rattle.drawing.proofs.Neighbours.{neighbours-le}
@@ -31,7 +31,6 @@ use Rattle.format.specs.Bytes.{sizeIn, wordIn}
 use Rattle.format.specs.Open.{openChecks, openRefusal}
 use Rattle.format.specs.Calls.{familyOfKind, moveIn, mapAnswer, crossOf, turnOf, turnBackOf, alongOf, pointOf, areaOf, cellsIn, isNumber, joinChecks, firstIn, firstOf, placesIn, sizeOf, neighboursIn, neighboursOf, joinIn, joiningOf}
 use Rattle.format.proofs.Passes.{opens-passes, opened}
-use Rattle.format.proofs.Places.{atPlace}
 
 -- ---- brackets of a word of n letters; N is any bound of n and of the position
 pick-most : (t : Bool) (x y N : ℕ) → x ≤ N → y ≤ N → pick t x y ≤ N
@@ -72,13 +71,13 @@ number-most b p = omega (arith, count-le (λ q. isOpens (b q)) (inner b p), inne
 
 -- ---- the answers of the calls
 module _ (w : Word) (N : ℕ) (few : w .size ≤ N) where
-  crossing-most : (p : ℕ) → p ≤ N → crossing w p ≤ N
-  unfolding crossing
-  crossing-most p l = mate-most (seen (w .letter p .family) w) (w .size) N few p l
+  mate-in-most : (p : ℕ) → p ≤ N → mateIn w p ≤ N
+  unfolding mateIn
+  mate-in-most p l = mate-most (seen (w .letter p .family) w) (w .size) N few p l
 
   move-most : (c : Call) (p : ℕ) → p ≤ N → moveIn w c p ≤ N + 2
   unfolding moveIn
-  move-most Call.cross p l = omega (arith, crossing-most p l)
+  move-most Call.cross p l = omega (arith, mate-in-most p l)
   move-most Call.turn p l =
       pick-most (isLast (seen round w) (w .size) p) 0 (suc (step (seen round w) (w .size) p)) (N + 2) (omega arith)
       (omega (arith, step-most (seen round w) (w .size) N few p l))
@@ -108,7 +107,7 @@ join-most : (w : Word) (v k p N : ℕ) → w .size ≤ N → p ≤ N → joinIn 
 unfolding joinIn
 join-most w v zero p N few l = omega arith
 join-most w v (suc k) p N few l =
-    go (eqb (number (seen round w) (crossing w p)) v)
+    go (eqb (number (seen round w) (mateIn w p)) v)
     (omega (arith, join-most w v k (step (seen round w) (w .size) p) (N + 1) (omega arith) (step-most (seen round w) (w .size) N few p l)))
   where
     go : (t : Bool) → joinIn w v k (step (seen round w) (w .size) p) ≤ N + suc k
@@ -157,7 +156,7 @@ module _ (s : List ℕ) where
   neighbours-small k =
       let v : ℕ = cellsIn (sizeIn s) Kind.area in
       own-small s (isNumber (sizeIn s) Kind.area k) (neighboursIn (wordIn s) v k) 15
-      (λ e t. omega (arith, opens-passes s e .m-most, neighbours-le (number (seen square (wordIn s))) (crossing (wordIn s)) (wordIn s .size) v k))
+      (λ e t. omega (arith, opens-passes s e .m-most, neighbours-le (number (seen square (wordIn s))) (mateIn (wordIn s)) (wordIn s .size) v k))
 
   pub joining-small : (u v : ℕ) → valueOf (joiningOf s u v) < 65536
   unfolding joiningOf openRefusal valueOf

@@ -19,11 +19,11 @@ use Prim.Native.Nat.{ℕ, zero, suc, pred, _+_, _-_, _≤_}
 use lib.Dec.{eqb, ltb, leb}
 use Rattle.count.specs.Below.{pick}
 use Rattle.answers.specs.Checks.{Check, check, after}
-use Rattle.answers.specs.Answer.{Answer, answer, refused, Size, Kind, noSuch}
+use Rattle.answers.specs.Answer.{Answer, Size, Kind, noSuch}
 use Rattle.words.specs.Brackets.{step, back, number, isFirst, isLast, first, size}
 use Rattle.words.specs.declared.family.Family.{Family}
 use Rattle.words.specs.declared.family.Family.the-variants.{Round as round, Square as square}
-use Rattle.words.specs.Word.{Word, seen, crossing}
+use Rattle.words.specs.Word.{Word, seen, mateIn}
 use Rattle.drawing.specs.Session.{Call, Outcome, session}
 use Rattle.drawing.specs.Neighbours.{neighbours, landings}
 use Rattle.format.specs.Bytes.{areasOf, sizeIn, bitsA, wordIn}
@@ -37,8 +37,8 @@ familyOfKind Kind.area = square
 -- 01, Moves: "Cross: the place of the other end. Turn: the next place about the point. It is 0 at the point's last place. Turn
 -- back: the reverse. It is 0 at the point's first place. Along: the next place of the area walk. Point and area of a place."
 unfoldable pub moveIn : Word → Call → ℕ → ℕ
-unfolding seen crossing step back number isFirst isLast
-moveIn w Call.cross p = suc (crossing w p)
+unfolding seen mateIn step back number isFirst isLast
+moveIn w Call.cross p = suc (mateIn w p)
 moveIn w Call.turn p = pick (isLast (seen round w) (w .size) p) 0 (suc (step (seen round w) (w .size) p))
 moveIn w Call.turn-back p = pick (isFirst (seen round w) p) 0 (suc (back (seen round w) (w .size) p))
 moveIn w Call.along p = suc (step (seen square w) (w .size) p)
@@ -119,8 +119,8 @@ sizeOf s c k = after (cellChecks s c k) (placesIn (wordIn s) c k)
 -- 02, 3/14: "The area across a side is the area of its crossing. The neighbour count becomes the number of other areas across at
 -- least one side." There are v areas.
 unfoldable pub neighboursIn : Word → ℕ → ℕ → ℕ
-unfolding neighbours number seen crossing
-neighboursIn w v k = neighbours (number (seen square w)) (crossing w) (w .size) v k
+unfolding neighbours number seen mateIn
+neighboursIn w v k = neighbours (number (seen square w)) (mateIn w) (w .size) v k
 
 unfoldable pub neighboursOf : List ℕ → ℕ → Answer ℕ
 unfolding openOf neighboursIn wordIn
@@ -128,16 +128,16 @@ neighboursOf s k = after (cellChecks s Kind.area k) (neighboursIn (wordIn s) (ce
 
 -- 02, 4/14: "one for each side, in walk order from the area's first place"
 unfoldable pub landingsIn : Word → ℕ → List ℕ
-unfolding landings number seen crossing step placesIn first
+unfolding landings number seen mateIn step placesIn first
 landingsIn w k =
-    landings (number (seen square w)) (crossing w) (step (seen square w) (w .size)) (placesIn w Kind.area k) (first (seen square w) (w .size) k)
+    landings (number (seen square w)) (mateIn w) (step (seen square w) (w .size)) (placesIn w Kind.area k) (first (seen square w) (w .size) k)
 
 -- the first of k places from position p on, in turning order, whose crossing lands at point v; 0 where none does
 unfoldable pub joinIn : Word → ℕ → ℕ → ℕ → ℕ
-unfolding number seen crossing step
+unfolding number seen mateIn step
 joinIn w v zero p = 0
 joinIn w v (suc k) p =
-    elim (eqb (number (seen round w) (crossing w p)) v) [ true ↦ suc p | false ↦ joinIn w v k (step (seen round w) (w .size) p) ]
+    elim (eqb (number (seen round w) (mateIn w p)) v) [ true ↦ suc p | false ↦ joinIn w v k (step (seen round w) (w .size) p) ]
 
 -- 01, Moves: "the search stops at the first place about u, in turning order, whose crossing lands at v, and answers that
 -- place. It answers 0 if none does."

@@ -15,12 +15,12 @@
 -- openOf s         == opening: m and n, or the refusal
 -- Assumes nothing.
 use mathlib.Core.Path.{_≡_}
-use mathlib.Core.Bool.{Bool, true, false, _&&_}
+use mathlib.Core.Bool.{Bool, _&&_}
 use mathlib.Core.List.{List, [], _∷_}
-use Prim.Native.Nat.{ℕ, zero, suc, _+_, _-_, _*_, _≤_, _<_}
+use Prim.Native.Nat.{ℕ, _+_, _-_, _*_, _≤_, _<_}
 use lib.ListN.{length}
 use lib.Dec.{eqb, leb}
-use Rattle.answers.specs.Answer.{Answer, answer, Size}
+use Rattle.answers.specs.Answer.{Answer, Size}
 use Rattle.answers.specs.Checks.{Check, check, refusalIn, after}
 use Rattle.words.specs.Brackets.{Balanced, balanced}
 use Rattle.words.specs.declared.family.Family.{Family}

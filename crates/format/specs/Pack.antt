@@ -15,18 +15,17 @@
 -- unpackChecks s t k == unpacking's checks: opening's, then 16, with t turning entries and k marks lent
 -- unpackOf s t k   == unpacking the map s into lists of t turning entries and k marks
 -- Assumes nothing.
-use mathlib.Core.Bool.{Bool, true, false, not, _&&_}
+use mathlib.Core.Bool.{Bool, not, _&&_}
 use mathlib.Core.List.{List, [], _∷_, _++_}
-use Prim.Native.Nat.{ℕ, zero, suc, _+_, _*_, _/_, _≤_}
+use Prim.Native.Nat.{ℕ, _+_, _*_, _/_, _≤_}
 use lib.Dec.{eqb, ltb, leb}
 use Rattle.count.specs.Below.{pick, count, find, table}
-use Rattle.answers.specs.Answer.{Answer, answer, refused, Size, Kind}
+use Rattle.answers.specs.Answer.{Answer, Size, Kind}
 use Rattle.answers.specs.Checks.{Check, check, refusalIn, after}
 use Rattle.answers.specs.Lent.{cleared}
 use Rattle.words.specs.Brackets.{step}
-use Rattle.words.specs.declared.family.Family.{Family}
 use Rattle.words.specs.declared.family.Family.the-variants.{Round as round, Square as square}
-use Rattle.words.specs.Word.{Letter, Word, seen, crossing}
+use Rattle.words.specs.Word.{Word, seen, mateIn}
 use Rattle.drawing.specs.Drawing.{Drawing, borders, ends, border, isMarked, cells, endAt, isSecond}
 use Rattle.drawing.specs.Checks.{LengthsFit, lengthsFit, InRange, inRange, Distinct, distinct, Joined, joined, FewMarks, fewMarks, Flat, crosses, firstCrossing}
 use Rattle.format.specs.Bytes.{sizeIn, longest, mapBytes, wordIn, familyBit}
@@ -86,8 +85,8 @@ unfolding count
 opensBefore w p = count (λ q. not (w .letter q .closing)) p
 
 unfoldable pub endIn : Word → ℕ → ℕ
-unfolding opensBefore crossing
-endIn w p = pick (w .letter p .closing) (2 * opensBefore w (crossing w p) + 1) (2 * opensBefore w p)
+unfolding opensBefore mateIn
+endIn w p = pick (w .letter p .closing) (2 * opensBefore w (mateIn w p) + 1) (2 * opensBefore w p)
 
 -- the position at which end h stands
 unfoldable pub positionIn : Word → ℕ → ℕ

@@ -1,2 +1,2 @@
--- Statuses and cells for a C host: laws.
+-- Statuses and slots for a C host: laws.
 pub mod Values

@@ -1,4 +1,4 @@
--- The numbers in an answer that fits its cells.
+-- The numbers in an answer that fits its slots.
 --
 -- borders-value, points-value == m and n of an answer of opening
 -- length-value, pair-values == the length and the pair of an answer of packing

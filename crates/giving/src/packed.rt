@@ -1,4 +1,4 @@
-// From an answer of packing to what is returned and a cell.
+// From an answer of packing to what is returned and a slot.
 use answers::Packed;
 ghost use mathlib.Core.Path.{_≡_};
 ghost use Prim.Native.Nat.{_+_, _*_, _<_};
@@ -6,7 +6,7 @@ ghost use Rattle.answers.specs.Means.{packedMeans};
 ghost use Rattle.answers.specs.Lent.{leaves, itself};
 ghost use Rattle.giving.specs.Desk.{returned, Small};
 
-// The length goes to the cell, and what is returned is the status with what 7 carries.
+// The length goes to the slot, and what is returned is the status with what 7 carries.
 pub fn give_length(p: Packed, length: &mut u16) -> u32
     requires { ⌜ Small p ⌝ }
     ensures { λ r. ⌜ r ≡ returned p ⌝ }

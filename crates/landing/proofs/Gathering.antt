@@ -25,10 +25,10 @@ use Rattle.count.proofs.Lists.{gather-length, gather-getD}
 use Rattle.answers.specs.Answer.{Kind}
 use Rattle.words.specs.Brackets.{number, step, first, size}
 use Rattle.words.specs.declared.family.Family.the-variants.{Square as square}
-use Rattle.words.specs.Word.{seen, crossing}
+use Rattle.words.specs.Word.{seen, mateIn}
 use Rattle.words.proofs.Step.{inner-step}
 use Rattle.words.proofs.Numbers.{inner-number}
-use Rattle.words.proofs.Crossing.{crossing-below}
+use Rattle.words.proofs.Mates.{mate-in-below}
 use Rattle.words.proofs.Order.{walk-more, walk-last}
 use Rattle.format.specs.Bytes.{sizeIn, bitsA, wordIn}
 use Rattle.format.specs.Open.{openRefusal}
@@ -55,7 +55,7 @@ module _ (s : List ℕ) (k : ℕ) where
   on p = eqb (areaAt p) k
 
   abbrev across : ℕ → ℕ
-  across p = areaAt (crossing (wordIn s) p)
+  across p = areaAt (mateIn (wordIn s) p)
 
   abbrev places : ℕ
   places = bitsA (sizeIn s)
@@ -161,13 +161,13 @@ module _ (s : List ℕ) (k : ℕ) where
       here : p < places
       here = omega (arith, P .size)
 
-      mate-is : q ≡ crossing (wordIn s) p
+      mate-is : q ≡ mateIn (wordIn s) p
       mate-is = hq ∙ P .mated .at p here (omega (arith, P .mates-long, P .few))
 
       pub mate-index : q < length areas
       unfolding wordIn
       mate-index =
-          omega (arith, mate-is, crossing-below (wordIn s) (λ X. nested s X (P .before .opens)) p here, P .few, P .size, P .areas-long)
+          omega (arith, mate-is, mate-in-below (wordIn s) (λ X. nested s X (P .before .opens)) p here, P .few, P .size, P .areas-long)
 
       beyond : getD areas q 0 ≡ across p
       beyond =
@@ -246,7 +246,7 @@ module _ (s : List ℕ) (k : ℕ) where
       }
 
   module _ (long most p c : ℕ) (l : List ℕ) (W : Walking long most p c l) where
-    module _ (q x r : ℕ) (Q : Position s q) (hq : q ≡ crossing (wordIn s) p) (hx : x ≡ areaAt q) (more : c ≡ most → ⊥) where
+    module _ (q x r : ℕ) (Q : Position s q) (hq : q ≡ mateIn (wordIn s) p) (hx : x ≡ areaAt q) (more : c ≡ most → ⊥) where
       pub area-fits : x < 65536
       area-fits = omega (arith, hx, number-cells s (Q .opens) Kind.area q (Q .below), areas-most s (Q .opens))
 
@@ -299,7 +299,7 @@ module _ (s : List ℕ) (k : ℕ) where
     landed-range i b =
         let p : ℕ = nth on i places in
         let h : p < places = nth-below on i places (omega (arith, landed-count)) in
-        let r = number-cells s o Kind.area (crossing (wordIn s) p) (crossing-below (wordIn s) (λ X. nested s X o) p h) in
+        let r = number-cells s o Kind.area (mateIn (wordIn s) p) (mate-in-below (wordIn s) (λ X. nested s X o) p h) in
         (omega (arith, landed-at i b, r .0), omega (arith, landed-at i b, r .1))
 
 pub landed-take : (s : List ℕ) (k c : ℕ) (l : List ℕ) → Landed s k c l → c ≤ length l → take c l ≡ landingsIn (wordIn s) k

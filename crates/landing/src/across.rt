@@ -1,12 +1,12 @@
 // Filling a list with the areas across the sides of an area.
-use lending::wide;
-use layout::bits_a;
 use answers::Area;
+use layout::bits_a;
+use lending::wide;
 use opening::Cell;
 use surveying::survey;
-use walking::crossing_at;
 use walking::first_at;
 use walking::number_at;
+use walking::own_mate_at;
 use walking::step_past;
 use words::Family;
 ghost use mathlib.Core.Path.{_≡_};
@@ -56,7 +56,7 @@ fn few_across(map: &[u8], area: Area, list: &mut [u16]) -> usize
         if c == most {
             break MORE;
         }
-        let q = crossing_at(map, p);
+        let q = own_mate_at(map, p);
         list[c] = number_at(map, Family::Square, q) as u16;
         c += 1;
         let r = step_past(map, Family::Square, p, q);

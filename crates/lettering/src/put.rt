@@ -1,10 +1,10 @@
 // The map's bytes: the header, then A, B and B*, each from a fresh byte, a letter at a time.
 use bits::bytes_for;
-use lending::least;
 use format::AT_AREAS;
 use format::AT_M;
 use format::AT_N;
 use format::HEADER;
+use lending::least;
 ghost use mathlib.Core.Path.{_≡_};
 ghost use Prim.Native.Nat.{_+_, _*_, _<_, _≤_};
 ghost use lib.ListN.{length};

@@ -18,12 +18,11 @@ use Prim.Native.Nat.{ℕ, zero, suc, _+_, _*_, _<_, _≤_}
 use native.Mathlib.Omega.{arith}
 use native.Mathlib.Numerals.{add-one}
 use lib.ListN.{length}
-use borrow.Author.Needs.{needs}
 use Rattle.count.proofs.Counts.{count-le}
 use Rattle.words.specs.Brackets.{isOpens, number}
 use Rattle.words.specs.declared.family.Family.{Family}
 use Rattle.words.specs.declared.family.Family.the-variants.{Round as round, Square as square}
-use Rattle.words.specs.Word.{Word, seen, crossing}
+use Rattle.words.specs.Word.{Word, seen, mateIn}
 use Rattle.words.proofs.Numbers.{number-range}
 use Rattle.drawing.specs.Session.{Call}
 use Rattle.text.specs.Running.{counts}
@@ -80,13 +79,13 @@ module _ (l : Line) (at : ℕ) (o₀ o₁ o₂ o₃ o₄ o₅ : List ℕ) (a b c
       let E′ = wrote-then o₀ t₄ at d o₄ g D′ (field (l .area .0) lineFeed) r o₅ E in
       wrote-as o₀ (t₄ ++ field (l .area .0) lineFeed) (lineText l) at r o₅ (line-fields l) E′
 
-line-same : (w : Word) (p : ℕ) (l : Line) → kind (w .letter p) ≡ l .bracket ∷ [] → l .place .0 ≡ p + 1 → l .mate .0 ≡ crossing w p + 1
+line-same : (w : Word) (p : ℕ) (l : Line) → kind (w .letter p) ≡ l .bracket ∷ [] → l .place .0 ≡ p + 1 → l .mate .0 ≡ mateIn w p + 1
     → l .node .0 ≡ moveIn w Call.point p → l .area .0 ≡ moveIn w Call.area p → lineText l ≡ placeLine w p
 unfolding lineText placeLine moveIn
 line-same w p l ek ep ex ey ez = rw (ek, ep, ex, ey, ez) (simp add-one)
 
 pub line-says : (s : List ℕ) (p x : ℕ) (l : Line) → Position s p → kind (wordIn s .letter p) ≡ l .bracket ∷ [] → l .place .0 ≡ p + 1
-    → x ≡ crossing (wordIn s) p → Position s x → l .mate .0 ≡ x + 1
+    → x ≡ mateIn (wordIn s) p → Position s x → l .mate .0 ≡ x + 1
     → l .node .0 ≡ number (seen round (wordIn s)) p → l .area .0 ≡ number (seen square (wordIn s)) p → Says s p l
 unfolding moveIn
 line-says s p x l P ek ep ex Q em ey ez =

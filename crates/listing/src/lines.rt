@@ -4,13 +4,13 @@
 // where the next unread bit of B and of B* stands, the running count of the marked places says.
 use crate::line::Line;
 use crate::line::put_line;
+use answers::Place;
 use bits::bit;
 use layout::bits_a;
 use layout::part_a;
 use layout::part_b;
-use answers::Place;
 use surveying::area_in;
-use surveying::crossing_in;
+use surveying::own_mate_in;
 use surveying::point_in;
 use surveying::survey;
 use words::Family;
@@ -89,7 +89,7 @@ fn line_at(map: &[u8], mates: &[u16], areas: &[u16], points: &[u16], p: usize, b
     requires { ⌜ Mates (now map) (now mates) × Numbers square (now map) (now areas) × Numbers round (now map) (now points) ⌝ }
     ensures { λ r. ⌜ Says (now (map .entry)) p r ⌝ }
 {
-    let mate = crossing_in(map, mates, p) + 1;
+    let mate = own_mate_in(map, mates, p) + 1;
     let node = point_in(map, points, p);
     let area = area_in(map, areas, p);
     Line {

@@ -11,11 +11,10 @@ use native.Mathlib.Omega.{arith}
 use Rattle.answers.specs.Answer.{answer, refused}
 use Rattle.words.specs.Brackets.{step, number}
 use Rattle.words.specs.declared.family.Family.the-variants.{Round as round, Square as square}
-use Rattle.words.specs.Word.{seen, crossing}
+use Rattle.words.specs.Word.{seen, mateIn}
 use Rattle.drawing.specs.Session.{Call}
 use Rattle.format.specs.Bytes.{sizeIn, bitsA, wordIn}
 use Rattle.format.specs.Calls.{moveIn, mapAnswer}
-use Rattle.format.proofs.Places.{atPlace}
 use Rattle.opening.specs.Checks.{placeRefusal}
 use Rattle.opening.proofs.Passed.{place-declines, place-answers}
 
@@ -31,7 +30,7 @@ module _ (s : List ℕ) (i k : ℕ) (e : k ≡ placeRefusal s i) (c : Call) wher
       ap answer (h ∙ ap (moveIn (wordIn s) c) p) ∙ place-answers s i k e (answer (moveIn (wordIn s) c (pred i))) z
 
 module _ (s : List ℕ) (i k : ℕ) (e : k ≡ placeRefusal s i) (r : ℕ) (z : k ≡ 0) where
-  pub cross-answers : r ≡ crossing (wordIn s) (i - 1) → answer (r + 1) ≡ mapAnswer s Call.cross i
+  pub cross-answers : r ≡ mateIn (wordIn s) (i - 1) → answer (r + 1) ≡ mapAnswer s Call.cross i
   unfolding moveIn
   cross-answers h = move-answers s i k e Call.cross (r + 1) z (omega arith)
 

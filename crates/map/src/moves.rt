@@ -2,8 +2,8 @@
 use answers::Place;
 use answers::PlaceAnswer;
 use opening::place_refusal;
-use walking::crossing_at;
 use walking::mate_at;
+use walking::own_mate_at;
 use walking::step_at;
 use walking::turn_back_past;
 use walking::turn_past;
@@ -24,7 +24,7 @@ pub fn cross(map: &[u8], place: Place) -> PlaceAnswer
     if k != 0 {
         return PlaceAnswer::Declined(k);
     }
-    let other = crossing_at(map, at - 1) + 1;
+    let other = own_mate_at(map, at - 1) + 1;
     PlaceAnswer::At(Place(other))
 }
 

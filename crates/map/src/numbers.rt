@@ -1,14 +1,14 @@
 // Points and areas: those of a place, their first places, how many places they have, and an area's neighbours.
-use layout::bits_a;
-use neighbouring::neighbours_at;
 use answers::Area;
 use answers::AreaAnswer;
-use opening::Cell;
 use answers::Count;
 use answers::Place;
 use answers::PlaceAnswer;
 use answers::Point;
 use answers::PointAnswer;
+use layout::bits_a;
+use neighbouring::neighbours_at;
+use opening::Cell;
 use opening::cell_refusal;
 use opening::place_refusal;
 use sizing::size_at;

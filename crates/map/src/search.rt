@@ -1,8 +1,8 @@
 // The joining border of two points.
-use opening::Cell;
 use answers::Place;
 use answers::PlaceAnswer;
 use answers::Point;
+use opening::Cell;
 use opening::cell_refusal;
 use opening::is_number;
 use searching::join_at;

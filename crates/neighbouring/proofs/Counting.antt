@@ -24,7 +24,7 @@ use Rattle.answers.specs.declared.numbers.Area.{Area}
 use Rattle.answers.specs.Answer.{Kind}
 use Rattle.words.specs.Brackets.{number}
 use Rattle.words.specs.declared.family.Family.the-variants.{Square as square}
-use Rattle.words.specs.Word.{seen, crossing}
+use Rattle.words.specs.Word.{seen, mateIn}
 use Rattle.drawing.specs.Neighbours.{isAcross, neighbours}
 use Rattle.drawing.proofs.Neighbours.{across-is}
 use Rattle.format.specs.Bytes.{sizeIn, bitsA, wordIn}
@@ -201,10 +201,10 @@ module _ (s l : List ℕ) (a : Area) (c : ℕ) (L : Landed s (a .0) c l) (N : Nu
         each = λ i b. let r = landed-range s k c l (N .opens) L i b in (r .0, omega (arith, r .1));
       }
 
-  among-across : (j : ℕ) → isAcross (number (seen square (wordIn s))) (crossing (wordIn s)) (bitsA (sizeIn s)) k j ≡ among l c k c j
+  among-across : (j : ℕ) → isAcross (number (seen square (wordIn s))) (mateIn (wordIn s)) (bitsA (sizeIn s)) k j ≡ among l c k c j
   among-across j =
       let area : ℕ → ℕ = number (seen square (wordIn s)) in
-      let cross : ℕ → ℕ = crossing (wordIn s) in
+      let cross : ℕ → ℕ = mateIn (wordIn s) in
       let n : ℕ = bitsA (sizeIn s) in
       let on : ℕ → Bool = λ p. eqb (area p) k in
       let d : c ≡ count on n = landed-count s k c l (N .opens) L in
@@ -239,7 +239,7 @@ module _ (s l : List ℕ) (a : Area) (c : ℕ) (L : Landed s (a .0) c l) (N : Nu
       (λ d t.
       let y = any-has (λ z. eqb (getD l z 0) (suc x)) c t in
       omega (arith, landed-range s k c l (N .opens) L (y .0) (y .1), eqb-true (getD l (y .0) 0) (suc x) (y .2))))
-      ∙ count-same (counted l c k c) (λ i. not (eqb (suc i) k) && isAcross (number (seen square (wordIn s))) (crossing (wordIn s)) (bitsA (sizeIn s)) k (suc i)) v
+      ∙ count-same (counted l c k c) (λ i. not (eqb (suc i) k) && isAcross (number (seen square (wordIn s))) (mateIn (wordIn s)) (bitsA (sizeIn s)) k (suc i)) v
       (λ i h. ap (λ t. not (eqb (suc i) k) && t) (sym (among-across (suc i))))
 
   pub countable-all : 4096 ≤ length l → Countable l c (a .0)

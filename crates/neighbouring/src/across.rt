@@ -1,7 +1,7 @@
 // Counting the other areas across the sides of an area, in one loop over the list of them.
-use lending::wide;
-use landing::land;
 use answers::Area;
+use landing::land;
+use lending::wide;
 ghost use mathlib.Core.Path.{_≡_};
 ghost use Rattle.opening.specs.declared.cells.Cell.{Cell};
 ghost use Rattle.walking.specs.Positions.{Numbered};

@@ -6,19 +6,16 @@
 -- cell-declines, cell-answers == a call about a point (area): 14 or 15, or its answer
 -- Assumes nothing.
 use mathlib.Core.Path.{_≡_, refl, sym, ap, _∙_}
-use mathlib.Core.Bool.{Bool, true, false, _&&_}
+use mathlib.Core.Bool.{true}
 use mathlib.Core.List.{List}
 use Prim.Native.Nat.{ℕ, _≤_}
-use lib.Dec.{ltb, leb}
 use lib.ListN.{drop}
-use Rattle.count.specs.Below.{pick}
 use Rattle.answers.specs.Checks.{Check, checked, numbered}
 use Rattle.answers.proofs.Steps.{tests-passed, none-append, checked-none, checked-some}
-use Rattle.answers.specs.Answer.{Answer, answer, refused, Kind, noSuch}
+use Rattle.answers.specs.Answer.{Answer, refused, Kind}
 use Rattle.format.specs.Bytes.{sizeIn, bitsA}
 use Rattle.format.specs.Open.{openChecks, openRefusal}
 use Rattle.format.specs.Calls.{placeChecks, cellsIn, isNumber, cellChecks}
-use Rattle.format.proofs.Passes.{opened}
 use Rattle.opening.specs.Checks.{placeRefusal, cellRefusal}
 use Rattle.opening.proofs.Refused.{inRange, range-has}
 

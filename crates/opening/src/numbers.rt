@@ -1,7 +1,7 @@
 // The check of a call's own number, after those of opening: 13, 14 and 15.
 use crate::cells::Cell;
-use answers::Place;
 use crate::checks::refusal;
+use answers::Place;
 use layout::areas;
 use layout::bits_a;
 use layout::points;

@@ -1,8 +1,8 @@
--- m and n fit cells of 16 bits. That every other answer does is a law of the crate `format`.
+-- m and n fit slots of 16 bits. That every other answer does is a law of the crate `format`.
 --
 -- open-small  == m and n that opening gives are below 65,536
 -- Assumes nothing.
-use mathlib.Core.Path.{_≡_, refl}
+use mathlib.Core.Path.{refl}
 use mathlib.Core.List.{List}
 use Prim.Native.Nat.{ℕ, _<_}
 use native.Mathlib.Omega.{arith}

@@ -12,13 +12,12 @@
 -- Assumes nothing.
 use mathlib.Core.Path.{_≡_, refl, sym, ap, _∙_}
 use mathlib.Core.Logic.{_≢_, inl, inr}
-use mathlib.Core.Bool.{Bool, true, false, not, _&&_}
+use mathlib.Core.Bool.{Bool, _&&_}
 use mathlib.Core.List.{List, [], _∷_, _++_}
-use Prim.Native.Nat.{ℕ, zero, suc, _+_, _*_, _/_, _%_, _<_, _≤_, min, max}
+use Prim.Native.Nat.{ℕ, _+_, _*_, _/_, _%_, _<_, _≤_, min, max}
 use native.Mathlib.Omega.{arith}
 use lib.Dec.{leb}
 use lib.ListN.{length, getD, length-append}
-use Rattle.count.specs.Below.{pick}
 use Rattle.count.proofs.Counts.{count-le}
 use Rattle.count.proofs.Lists.{table-length, gather-length}
 use Rattle.count.proofs.Logic.{true-or-false}
@@ -44,7 +43,7 @@ use Rattle.format.proofs.Passes.{opens-passes}
 use Rattle.format.proofs.Refusals.{pack-crosses}
 use Rattle.packing.proofs.Outcomes.{declined}
 use Rattle.giving.specs.Desk.{returned, Small}
-use Rattle.pmap.proofs.Given.{cell-same}
+use Rattle.pmap.proofs.Given.{slot-same}
 
 -- ---- the bytes of a drawing's map
 string-most : (K : Family) (w : Word) → length (stringB K w) ≤ w .size
@@ -178,7 +177,7 @@ module _ (D : Drawing) (work work' out out' : List ℕ) (p : Packed) (P : Packs 
         low = R .low ∙ ap numberOf (P .answers) ∙ number-length A;
         smaller = R .smaller ∙ ap (λ xs. getD xs 0 0) carried;
         larger = R .larger ∙ ap (λ xs. getD xs 1 0) carried;
-        cell = cell-same l' l (packedMeans p) (told length A) g (P .answers);
+        length-given = slot-same l' l (packedMeans p) (told length A) g (P .answers);
         leaves = P .leaves;
       }
 

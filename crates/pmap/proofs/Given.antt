@@ -1,7 +1,7 @@
--- Statuses and cells of the calls: a call passes on the answer a of the crates below, which is what the definition gives.
+-- Statuses and slots of the calls: a call passes on the answer a of the crates below, which is what the definition gives.
 --
--- status-same, cell-same == equal answers have one status, and leave one cell
--- borders-same, points-same, borders-fit, points-fit == the same of opening, which has two cells
+-- status-same, slot-same == equal answers have one status, and leave one slot
+-- borders-same, points-same, borders-fit, points-fit == the same of opening, which has two slots
 -- left-status == the place left by a session, or its refusal, has the session's status
 -- call-all, open-all == what the proofs search
 -- Assumes nothing.
@@ -20,10 +20,10 @@ module _ {A : Type 0} where
   pub status-same : (r : ℕ) (a b : Answer A) → r ≡ numberOf a → a ≡ b → r ≡ numberOf b
   status-same r a b h e = h ∙ ap numberOf e
 
-  pub cell-same : (x old : A) (a b : Answer A) → x ≡ leaves itself a old → a ≡ b → x ≡ leaves itself b old
-  cell-same x old a b h e = h ∙ ap (λ y. leaves itself y old) e
+  pub slot-same : (x old : A) (a b : Answer A) → x ≡ leaves itself a old → a ≡ b → x ≡ leaves itself b old
+  slot-same x old a b h e = h ∙ ap (λ y. leaves itself y old) e
 
-pub ruleset call-all = (status-same, cell-same, cross-fits, turn-fits, turn-back-fits, along-fits, point-fits, area-fits, first-fits, size-fits, neighbours-fit, joining-fits, needs)
+pub ruleset call-all = (status-same, slot-same, cross-fits, turn-fits, turn-back-fits, along-fits, point-fits, area-fits, first-fits, size-fits, neighbours-fit, joining-fits, needs)
 
 -- ---- opening
 module _ (a b : Answer Size) (e : a ≡ b) where

@@ -5,28 +5,25 @@
 -- unpack-tells == so of every call
 -- Assumes nothing.
 use mathlib.Core.Path.{_≡_, refl}
-use mathlib.Core.Bool.{Bool, true, false, _&&_}
-use mathlib.Core.List.{List, [], _∷_, _++_}
-use Prim.Native.Nat.{ℕ, zero, suc, pred, _*_}
+use mathlib.Core.Bool.{true}
+use mathlib.Core.List.{List, [], _++_}
+use Prim.Native.Nat.{ℕ, pred}
 use native.Mathlib.Omega.{arith}
-use lib.Dec.{ltb, leb}
 use lib.Ieee.{Float}
-use lib.ListN.{length}
-use Rattle.count.specs.Below.{pick}
-use Rattle.answers.specs.Checks.{Check, check, after, numbered}
+use Rattle.answers.specs.Checks.{Check, after, numbered}
 use Rattle.answers.proofs.Steps.{by-checks}
-use Rattle.answers.specs.Answer.{Answer, answer, refusedWith, refused, numberOf, Tells, Kind}
+use Rattle.answers.specs.Answer.{answer, refusedWith, numberOf, Tells, Kind}
 use Rattle.words.specs.Brackets.{first}
 use Rattle.words.specs.declared.family.Family.the-variants.{Round as round}
 use Rattle.words.specs.Word.{seen}
 use Rattle.drawing.specs.Drawing.{Drawing}
-use Rattle.drawing.specs.Session.{Call, Outcome}
+use Rattle.drawing.specs.Session.{Call}
 use Rattle.format.specs.Bytes.{sizeIn, wordIn}
 use Rattle.format.specs.Open.{openChecks, openOf}
-use Rattle.format.specs.Calls.{moveIn, placeChecks, mapAnswer, mapSession, cellsIn, isNumber, cellChecks, firstIn, firstOf, placesIn, sizeOf, neighboursIn, neighboursOf, joinIn, joiningOf}
+use Rattle.format.specs.Calls.{moveIn, placeChecks, mapAnswer, mapSession, cellsIn, cellChecks, firstIn, firstOf, placesIn, sizeOf, neighboursIn, neighboursOf, joinIn, joinChecks, joiningOf}
 use Rattle.format.specs.Sessions.{callsOf, runChecks, ranOf}
 use Rattle.tariff.specs.Maps.{factorOf, factorChecks, factorIn}
-use Rattle.format.specs.Pack.{packedBytes, packChecks, packOf, drawingOf, unpackOf}
+use Rattle.format.specs.Pack.{packedBytes, packChecks, packOf, drawingOf, unpackChecks, unpackOf}
 
 refused-tells : {A : Type 0} (k : ℕ) (xs : List ℕ) → (k ≡ 0 → ⊥) → Tells {A = A} (refusedWith k xs)
 unfolding numberOf
@@ -67,7 +64,7 @@ module _ (s : List ℕ) where
   pub joining-tells : (u v : ℕ) → Tells (joiningOf s u v)
   unfolding joiningOf
   joining-tells u v =
-      after-tells (openChecks s ++ (check 14 (isNumber (sizeIn s) Kind.point u && isNumber (sizeIn s) Kind.point v) Unit ∷ []))
+      after-tells (joinChecks s u v)
       (joinIn (wordIn s) v (placesIn (wordIn s) Kind.point u) (first (seen round (wordIn s)) (wordIn s .size) u)) refl
 
   pub factor-tells : (k : ℕ) (kinds : List ℕ) (values : List Float) → Tells (factorOf s k kinds values)
@@ -81,7 +78,7 @@ module _ (s : List ℕ) where
   pub unpack-tells : (t k : ℕ) → Tells (unpackOf s t k)
   unfolding unpackOf
   unpack-tells t k =
-      after-tells (openChecks s ++ (check 16 (leb (2 * sizeIn s .m) t && leb (sizeIn s .m) k) Unit ∷ [])) (drawingOf (wordIn s)) refl
+      after-tells (unpackChecks s t k) (drawingOf (wordIn s)) refl
 
 pub pack-tells : (D : Drawing) (w o : ℕ) → Tells (packOf D w o)
 unfolding packOf

@@ -1,8 +1,8 @@
 // Calls about areas.
+use answers::Area;
 use giving::give_count;
 use giving::give_factor;
 use giving::give_place;
-use answers::Area;
 ghost use mathlib.Core.Path.{_≡_};
 ghost use Rattle.answers.specs.Answer.{numberOf, Kind};
 ghost use Rattle.answers.specs.Lent.{leaves, itself};

@@ -20,7 +20,7 @@ pub extern "C" fn pmap_marks(turning: &[u16], marks: &mut [u8], work: &mut [u16]
     suggesting::suggest(turning, marks, work)
 }
 
-// The map of a drawing goes to `out`, its length to a cell. With 7 the pair stands in the bits above the status.
+// The map of a drawing goes to `out`, its length to a slot. With 7 the pair stands in the bits above the status.
 #[no_mangle]
 pub extern "C" fn pmap_pack(
     turning: &[u16],
@@ -36,7 +36,7 @@ pub extern "C" fn pmap_pack(
     give_length(packing::pack(turning, marks, start, work, out), length)
 }
 
-// The drawing of a map goes to the two lists, m to a cell.
+// The drawing of a map goes to the two lists, m to a slot.
 #[no_mangle]
 pub extern "C" fn pmap_unpack(map: &[u8], turning: &mut [u16], marks: &mut [u8], m: &mut u16) -> u8
     ensures { λ r. ⌜ r ≡ numberOf (unpackOf (now (map .entry)) (size (now (turning .entry))) (size (now (marks .entry)))) ⌝ }

@@ -12,14 +12,14 @@
 //     pmap_pack, pmap_unpack                                 from a drawing to a map, and back
 //
 // Conventions. Each function returns a status: 0, or the number of the check that declines. The answer goes to
-// cells and lists that the host lends, and a call that declines leaves them as they were. Only the working lists of
+// slots and lists that the host lends, and a call that declines leaves them as they were. Only the working lists of
 // pmap_marks and pmap_pack are cleared by most refusals too, and only pmap_pack returns more than a status: the pair
 // of borders that 7 carries. Numbers come in as usize, so that nothing is cut: place 65,537 is declined, not taken for 1. No
 // function asks anything of its caller.
 //
-// The functions only pass on what the crates `opening`, `map`, `rating`, `running`, `suggesting`, `packing` and `unpacking`
-// answer. The definitions that the contracts cite are those of the crates `format` and `tariff`, with `running`, `packing` and
-// `unpacking` for the lists that are lent to them; the crate `giving` says what a cell holds after a call, and what pmap_pack returns.
+// The functions only pass on what the crates `opening`, `map`, `rating`, `sessions`, `suggesting`, `packing` and `unpacking`
+// answer. The definitions that the contracts cite are those of the theory: `format` and `tariff` for the calls, `answers` for the
+// status and what the memory lent holds after a call.
 mod areas;
 mod desk;
 mod places;

@@ -1,8 +1,8 @@
 // Calls about a place: the four moves, and its point and area.
+use answers::Place;
 use giving::give_area;
 use giving::give_place;
 use giving::give_point;
-use answers::Place;
 ghost use mathlib.Core.Path.{_≡_};
 ghost use Rattle.answers.specs.Answer.{numberOf};
 ghost use Rattle.answers.specs.Lent.{leaves, itself};

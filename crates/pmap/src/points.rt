@@ -1,7 +1,7 @@
 // Calls about points.
+use answers::Point;
 use giving::give_count;
 use giving::give_place;
-use answers::Point;
 ghost use mathlib.Core.Path.{_≡_};
 ghost use Rattle.answers.specs.Answer.{numberOf, Kind};
 ghost use Rattle.answers.specs.Lent.{leaves, itself};

@@ -7,7 +7,7 @@ ghost use Rattle.answers.specs.Lent.{laid, leaves, itself};
 ghost use Rattle.drawing.specs.Session.{Outcome};
 ghost use Rattle.format.specs.Sessions.{ranOf, statusesOf, valuesOf};
 
-// The status and the answer of each call go to the two lists, the place left at the end to a cell.
+// The status and the answer of each call go to the two lists, the place left at the end to a slot.
 #[no_mangle]
 pub extern "C" fn pmap_session(
     map: &[u8],

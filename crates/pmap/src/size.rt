@@ -1,4 +1,4 @@
-// Opening: m and n in two cells.
+// Opening: m and n in two slots.
 use giving::give_size;
 ghost use mathlib.Core.Path.{_≡_};
 ghost use Rattle.answers.specs.Answer.{numberOf, told, Size};

@@ -29,7 +29,7 @@ pub record Denoted (s : List ℕ) (m : ℕ) (t k : List ℕ) : Type 0 where
 
 module _ (s t k t′ k′ : List ℕ) (m : ℕ) where
   read-as : (a : Answer Drawing) → readText s ≡ a → answer m ≡ told borders a → t′ ≡ leaves (λ (D : Drawing). laid (D .turning)) a t → k′ ≡ leaves (λ (D : Drawing). laid (D .marks)) a k → Denoted s m t′ k′
-  unfolding borders
+  unfolding borders leaves
   read-as (answer D) r e ht hk =
       let N : Denotes s D = text-denotes s D r in
       let n : m ≡ length (D .marks) = cc in

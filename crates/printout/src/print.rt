@@ -1,10 +1,10 @@
 // The text is read, its drawing is packed, and the map is listed.
+use answers::Packed;
+use answers::Parsed;
 use format::LONGEST;
 use format::MOST_BORDERS;
 use format::MOST_ENDS;
 use listing::ROOM;
-use answers::Packed;
-use answers::Parsed;
 ghost use mathlib.Core.Path.{_≡_};
 ghost use lib.ListN.{length};
 ghost use Rattle.answers.specs.Lent.{laid};

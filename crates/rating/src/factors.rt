@@ -1,8 +1,8 @@
 // The factor of an area: the checks in order, then its own, held, or the mean across its sides.
-use answers::FactorAnswer;
 use crate::sides::sum_across;
-use layout::areas;
 use answers::Area;
+use answers::FactorAnswer;
+use layout::areas;
 use opening::Cell;
 use opening::cell_refusal;
 use pricing::factor_in;

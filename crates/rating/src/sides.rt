@@ -1,7 +1,7 @@
 // Adding up the known factors across the sides of an area, in one loop over the list of the areas across.
-use lending::wide;
-use landing::land;
 use answers::Area;
+use landing::land;
+use lending::wide;
 use pricing::add;
 use pricing::factor_in;
 use tariff::Running;

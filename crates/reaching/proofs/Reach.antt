@@ -22,7 +22,7 @@ use Rattle.answers.specs.Answer.{Kind}
 use Rattle.orbits.specs.Cycles.{Permutes, leads, cycles}
 use Rattle.orbits.proofs.Low.{low-same-cycle}
 use Rattle.drawing.specs.Drawing.{Drawing, borders, ends, border, other, turn, marked, cells, lent}
-use Rattle.drawing.specs.Checks.{Linked, here, turned, crossing, Joins}
+use Rattle.drawing.specs.Checks.{Linked, here, turned, across, Joins}
 use Rattle.drawing.specs.Tree.{SuggestedTree}
 use Rattle.drawing.proofs.Ends.{other-below, border-below}
 use Rattle.drawing.proofs.Labels.{linked-within, cycle-linked, joins-from}
@@ -182,7 +182,7 @@ module _ (ts ms : List ℕ) (S : ℕ → Bool) (P : Turns ts) (half : length ts 
       linked-reached s x (turned h L) =
           let r = linked-reached s h L in
           (P .below h (r .0), R .whole .turned h (r .0) (r .1))
-      linked-reached s x (crossing h t L) =
+      linked-reached s x (across h t L) =
           let r = linked-reached s h L in
           let q = R .queue .found h (r .0) (r .1) in
           let at : queued every w (q .0) ≡ h = q .2 in

@@ -23,7 +23,7 @@ use Rattle.count.proofs.Logic.{same-or-not, true-or-false, true-not-false}
 use Rattle.count.proofs.Below.{count-le, count-one-less}
 use Rattle.orbits.proofs.Low.{low-same-cycle}
 use Rattle.drawing.specs.Drawing.{Drawing, borders, ends, border, other, marked, turn, lent}
-use Rattle.drawing.specs.Checks.{Linked, crossing}
+use Rattle.drawing.specs.Checks.{Linked, across}
 use Rattle.drawing.proofs.Ends.{other-below, other-border, border-below, border-two}
 use Rattle.drawing.proofs.Labels.{linked-within, linked-trans, cycle-linked}
 use Rattle.checking.specs.Lent.{next, Turns}
@@ -159,7 +159,7 @@ module _ (ts ms : List ℕ) (S : ℕ → Bool) (h : ℕ) (w : List ℕ) (k n : �
           elim (new x b g) [
             | inl i ↦ old x b i
             | inr e ↦
-                let there : Linked D (treeIn all v) 0 (other h) = crossing h in-here (old h l f) in
+                let there : Linked D (treeIn all v) 0 (other h) = across h in-here (old h l f) in
                 linked-trans D (treeIn all v) p 0 o x (rw is there)
                 (cycle-linked D (treeIn all v) p o x (rw half at bo) (low-same-cycle P o x bo b (sym e)))
           ]

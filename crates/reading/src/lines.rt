@@ -1,7 +1,7 @@
 // The lines of the text.
+use crate::fields::field;
 use crate::parts::Field;
 use crate::parts::Row;
-use crate::fields::field;
 ghost use mathlib.Core.Path.{_≡_};
 ghost use mathlib.Core.Option.{some, none};
 ghost use lib.ListN.{length, drop};

@@ -1,8 +1,8 @@
 // Reading the whole text: one pass to count its borders, one to write the lists.
-use answers::Parsed;
-use crate::parts::Row;
 use crate::lines::begins;
 use crate::lines::line;
+use crate::parts::Row;
+use answers::Parsed;
 use format::MOST_BORDERS;
 use format::MOST_ENDS;
 ghost use mathlib.Core.Path.{_≡_};

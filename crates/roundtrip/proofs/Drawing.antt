@@ -29,7 +29,7 @@ use Rattle.orbits.proofs.Conjugate.{conjugate-permutes, conjugate-cycles}
 use Rattle.words.specs.Brackets.{Balanced, isOpens, mate, next, step}
 use Rattle.words.specs.declared.family.Family.{Family}
 use Rattle.words.specs.declared.family.Family.the-variants.{Round as round}
-use Rattle.words.specs.Word.{sameFamily, Word, seen, crossing}
+use Rattle.words.specs.Word.{sameFamily, Word, seen, mateIn}
 use Rattle.words.proofs.Mate.{mate-below, mate-involutive}
 use Rattle.words.proofs.Step.{next-plain, next-last, step-permutes}
 use Rattle.words.proofs.Numbers.{openings}
@@ -42,7 +42,7 @@ use Rattle.format.specs.Calls.{familyOfKind}
 use Rattle.format.specs.Pack.{opensBefore, endIn, positionIn, drawingOf}
 use Rattle.format.proofs.Strings.{family-same}
 use Rattle.format.specs.Fits.{Fits}
-use Rattle.words.proofs.Crossing.{mate-own, mate-else, by-family, crossing-below, crossing-family, crossing-closing, crossing-closes, mate-crossing}
+use Rattle.words.proofs.Mates.{mate-own, mate-else, by-family, mate-in-below, mate-in-family, mate-in-closing, mate-in-closes, mate-crossing}
 use Rattle.roundtrip.proofs.Openings.{openings-all, openings-cell}
 use Rattle.roundtrip.proofs.Ends.{end-in-opens, end-in-closes, end-in-crossing, end-in-below, end-in-permutes, position-in, position-in-below, position-in-end}
 
@@ -65,10 +65,10 @@ module _ (w : Word) (bal : (K : Family) → Balanced (seen K w) (w .size)) where
   family-even : (p : ℕ) → p < w .size → w .letter (positionIn w (2 * border (endIn w p))) .family ≡ w .letter p .family
   unfolding border
   family-even p l = ⊎-elim
-      (λ t. let e : 2 * (endIn w p / 2) ≡ endIn w (crossing w p)
-      = omega (arith, end-in-closes w p t, end-in-opens w (crossing w p) (crossing-closing w bal p l ∙ ap not t)) in
+      (λ t. let e : 2 * (endIn w p / 2) ≡ endIn w (mateIn w p)
+      = omega (arith, end-in-closes w p t, end-in-opens w (mateIn w p) (mate-in-closing w bal p l ∙ ap not t)) in
       ap (λ x. w .letter (positionIn w x) .family) e
-      ∙ ap (λ x. w .letter x .family) (position-in w bal (crossing w p) (crossing-below w bal p l)) ∙ crossing-family w bal p l)
+      ∙ ap (λ x. w .letter x .family) (position-in w bal (mateIn w p) (mate-in-below w bal p l)) ∙ mate-in-family w bal p l)
       (λ f. let e : 2 * (endIn w p / 2) ≡ endIn w p = omega (arith, end-in-opens w p f) in
       ap (λ x. w .letter (positionIn w x) .family) e ∙ ap (λ x. w .letter x .family) (position-in w bal p l))
       (true-or-false (w .letter p .closing))
@@ -100,7 +100,7 @@ module _ (w : Word) (bal : (K : Family) → Balanced (seen K w) (w .size)) where
   end-in-zero : 0 < w .size → endIn w 0 ≡ 0
   unfolding opensBefore
   end-in-zero z = ⊎-elim
-      (λ t. absurd (omega (arith, crossing-closes w bal 0 z t)))
+      (λ t. absurd (omega (arith, mate-in-closes w bal 0 z t)))
       (λ f. end-in-opens w 0 f ∙ omega (arith, count-zero (λ q. not (w .letter q .closing))))
       (true-or-false (w .letter 0 .closing))
 
@@ -116,7 +116,7 @@ module _ (w : Word) (bal : (K : Family) → Balanced (seen K w) (w .size)) where
   unfolding around walk over step
   drawing-around Kind.point p l = drawing-turn p l
   drawing-around Kind.area p l =
-      ap (turn (drawingOf w)) (sym (end-in-crossing w bal p l)) ∙ drawing-turn (crossing w p) (crossing-below w bal p l)
+      ap (turn (drawingOf w)) (sym (end-in-crossing w bal p l)) ∙ drawing-turn (mateIn w p) (mate-in-below w bal p l)
       ∙ ap (λ x. endIn w (next (w .size) x)) (mate-crossing w bal round p l)
 
   pub drawing-permutes : Permutes (ends (drawingOf w)) (turn (drawingOf w))

@@ -22,24 +22,24 @@ use Rattle.count.proofs.Below.{count-before, nth-of-count, find-has, find-at-mo
 use Rattle.orbits.specs.Cycles.{Permutes}
 use Rattle.words.specs.Brackets.{Balanced}
 use Rattle.words.specs.declared.family.Family.{Family}
-use Rattle.words.specs.Word.{Word, seen, crossing}
+use Rattle.words.specs.Word.{Word, seen, mateIn}
 use Rattle.drawing.specs.Drawing.{border, other}
 use Rattle.drawing.proofs.Ends.{other-even, other-odd, other-moves}
 use Rattle.format.specs.Pack.{opensBefore, endIn, positionIn}
-use Rattle.words.proofs.Crossing.{crossing-below, crossing-involutive, crossing-closing, crossing-opens, crossing-closes}
+use Rattle.words.proofs.Mates.{mate-in-below, mate-in-involutive, mate-in-closing, mate-in-opens, mate-in-closes}
 use Rattle.roundtrip.proofs.Openings.{openings-all}
 
 abbrev pub opening : Word → ℕ → ℕ
-opening w p = pick (w .letter p .closing) (crossing w p) p
+opening w p = pick (w .letter p .closing) (mateIn w p) p
 
 module _ (w : Word) where
   pub end-in-opens : (p : ℕ) → w .letter p .closing ≡ false → endIn w p ≡ 2 * opensBefore w p
   unfolding endIn
-  end-in-opens p e = pick-no (w .letter p .closing) (2 * opensBefore w (crossing w p) + 1) (2 * opensBefore w p) e
+  end-in-opens p e = pick-no (w .letter p .closing) (2 * opensBefore w (mateIn w p) + 1) (2 * opensBefore w p) e
 
-  pub end-in-closes : (p : ℕ) → w .letter p .closing ≡ true → endIn w p ≡ 2 * opensBefore w (crossing w p) + 1
+  pub end-in-closes : (p : ℕ) → w .letter p .closing ≡ true → endIn w p ≡ 2 * opensBefore w (mateIn w p) + 1
   unfolding endIn
-  end-in-closes p e = pick-yes (w .letter p .closing) (2 * opensBefore w (crossing w p) + 1) (2 * opensBefore w p) e
+  end-in-closes p e = pick-yes (w .letter p .closing) (2 * opensBefore w (mateIn w p) + 1) (2 * opensBefore w p) e
 
   pub border-in : (p : ℕ) → border (endIn w p) ≡ opensBefore w (opening w p)
   unfolding border
@@ -48,33 +48,33 @@ module _ (w : Word) where
       (λ f. rw f (omega (arith, end-in-opens p f)))
       (true-or-false (w .letter p .closing))
 
-  opening-is : (p : ℕ) → (opening w p ≡ p) ⊎ (opening w p ≡ crossing w p)
+  opening-is : (p : ℕ) → (opening w p ≡ p) ⊎ (opening w p ≡ mateIn w p)
   opening-is p = ⊎-elim (λ t. inr (rw t)) (λ f. inl (rw f)) (true-or-false (w .letter p .closing))
 
 module _ (w : Word) (bal : (K : Family) → Balanced (seen K w) (w .size)) where
-  crossing-opening : (p : ℕ) → p < w .size → w .letter p .closing ≡ true → w .letter (crossing w p) .closing ≡ false
-  crossing-opening p l t = crossing-closing w bal p l ∙ ap not t
+  mate-in-opening : (p : ℕ) → p < w .size → w .letter p .closing ≡ true → w .letter (mateIn w p) .closing ≡ false
+  mate-in-opening p l t = mate-in-closing w bal p l ∙ ap not t
 
   opening-below : (p : ℕ) → p < w .size → opening w p < w .size
-  opening-below p l = ⊎-elim (λ t. rw t (crossing-below w bal p l)) (λ f. rw f l) (true-or-false (w .letter p .closing))
+  opening-below p l = ⊎-elim (λ t. rw t (mate-in-below w bal p l)) (λ f. rw f l) (true-or-false (w .letter p .closing))
 
   opening-opens : (p : ℕ) → p < w .size → w .letter (opening w p) .closing ≡ false
-  opening-opens p l = ⊎-elim (λ t. rw t (crossing-opening p l t)) (λ f. rw f f) (true-or-false (w .letter p .closing))
+  opening-opens p l = ⊎-elim (λ t. rw t (mate-in-opening p l t)) (λ f. rw f f) (true-or-false (w .letter p .closing))
 
   -- the openings before it tell an opening
   rank-opening : (p : ℕ) → p < w .size → nth (λ q. not (w .letter q .closing)) (opensBefore w (opening w p)) (w .size) ≡ opening w p
   unfolding opensBefore
   rank-opening p l = nth-of-count (λ q. not (w .letter q .closing)) (opening w p) (w .size) (opening-below p l) (ap not (opening-opens p l))
 
-  pub border-pairs : (p q : ℕ) → p < w .size → q < w .size → border (endIn w p) ≡ border (endIn w q) → (q ≡ p) ⊎ (q ≡ crossing w p)
+  pub border-pairs : (p q : ℕ) → p < w .size → q < w .size → border (endIn w p) ≡ border (endIn w q) → (q ≡ p) ⊎ (q ≡ mateIn w p)
   border-pairs p q l k e = ⊎-elim
       (λ a. ⊎-elim
       (λ b. inl (sym b ∙ sym same ∙ a))
-      (λ b. inr (sym (crossing-involutive w bal q k) ∙ ap (crossing w) (sym b ∙ sym same ∙ a)))
+      (λ b. inr (sym (mate-in-involutive w bal q k) ∙ ap (mateIn w) (sym b ∙ sym same ∙ a)))
       (opening-is w q))
       (λ a. ⊎-elim
       (λ b. inr (sym b ∙ sym same ∙ a))
-      (λ b. inl (sym (crossing-involutive w bal q k) ∙ ap (crossing w) (sym b ∙ sym same ∙ a) ∙ crossing-involutive w bal p l))
+      (λ b. inl (sym (mate-in-involutive w bal q k) ∙ ap (mateIn w) (sym b ∙ sym same ∙ a) ∙ mate-in-involutive w bal p l))
       (opening-is w q))
       (opening-is w p)
     where
@@ -83,19 +83,19 @@ module _ (w : Word) (bal : (K : Family) → Balanced (seen K w) (w .size)) where
           sym (rank-opening p l) ∙ ap (λ x. nth (λ q. not (w .letter q .closing)) x (w .size)) (sym (border-in w p) ∙ e ∙ border-in w q) ∙ rank-opening q k
 
   -- the first place of a pair is the lower of the two
-  pub end-in-min : (p : ℕ) → p < w .size → 2 * opensBefore w (min p (crossing w p)) + pick (w .letter p .closing) 1 0 ≡ endIn w p
+  pub end-in-min : (p : ℕ) → p < w .size → 2 * opensBefore w (min p (mateIn w p)) + pick (w .letter p .closing) 1 0 ≡ endIn w p
   end-in-min p l = ⊎-elim
-      (λ t. let e : min p (crossing w p) ≡ crossing w p = omega (arith, crossing-closes w bal p l t) in
+      (λ t. let e : min p (mateIn w p) ≡ mateIn w p = omega (arith, mate-in-closes w bal p l t) in
       ap₂ (λ x k. 2 * opensBefore w x + k) e (pick-yes (w .letter p .closing) 1 0 t) ∙ sym (end-in-closes w p t))
-      (λ f. let e : min p (crossing w p) ≡ p = omega (arith, crossing-opens w bal p l f) in
+      (λ f. let e : min p (mateIn w p) ≡ p = omega (arith, mate-in-opens w bal p l f) in
       ap₂ (λ x k. 2 * opensBefore w x + k) e (pick-no (w .letter p .closing) 1 0 f) ∙ omega (arith, end-in-opens w p f))
       (true-or-false (w .letter p .closing))
 
-  pub end-in-crossing : (p : ℕ) → p < w .size → endIn w (crossing w p) ≡ other (endIn w p)
+  pub end-in-crossing : (p : ℕ) → p < w .size → endIn w (mateIn w p) ≡ other (endIn w p)
   end-in-crossing p l = ⊎-elim
-      (λ t. end-in-opens w (crossing w p) (crossing-opening p l t) ∙ sym (ap other (end-in-closes w p t) ∙ other-odd (opensBefore w (crossing w p))))
-      (λ f. end-in-closes w (crossing w p) (crossing-closing w bal p l ∙ ap not f)
-      ∙ ap (λ x. 2 * opensBefore w x + 1) (crossing-involutive w bal p l) ∙ sym (ap other (end-in-opens w p f) ∙ other-even (opensBefore w p)))
+      (λ t. end-in-opens w (mateIn w p) (mate-in-opening p l t) ∙ sym (ap other (end-in-closes w p t) ∙ other-odd (opensBefore w (mateIn w p))))
+      (λ f. end-in-closes w (mateIn w p) (mate-in-closing w bal p l ∙ ap not f)
+      ∙ ap (λ x. 2 * opensBefore w x + 1) (mate-in-involutive w bal p l) ∙ sym (ap other (end-in-opens w p f) ∙ other-even (opensBefore w p)))
       (true-or-false (w .letter p .closing))
 
   pub end-in-below : (p : ℕ) → p < w .size → endIn w p < w .size

@@ -21,7 +21,7 @@ use Rattle.words.proofs.Halves.{isBracket, openings-half}
 use Rattle.format.specs.Calls.{familyOfKind, cellsIn}
 use Rattle.format.proofs.Strings.{families-all}
 use Rattle.format.specs.Fits.{Fits}
-use Rattle.words.proofs.Crossing.{viewed}
+use Rattle.words.proofs.Mates.{viewed}
 
 viewed-is-opens : (K F : Family) (t : Bool) → isOpens (viewed K F t) ≡ sameFamily K F && not t
 viewed-is-opens round round true = refl

@@ -23,16 +23,16 @@ use Rattle.orbits.proofs.Same.{same-cycle-trans, same-cycle-sym, same-cycle-ind
 use Rattle.words.specs.Brackets.{Balanced, isOpens, step}
 use Rattle.words.specs.declared.family.Family.{Family}
 use Rattle.words.specs.declared.family.Family.the-variants.{Round as round, Square as square}
-use Rattle.words.specs.Word.{sameFamily, Word, seen, crossing}
+use Rattle.words.specs.Word.{sameFamily, Word, seen, mateIn}
 use Rattle.words.proofs.Numbers.{openings}
 use Rattle.drawing.specs.Drawing.{Drawing, borders, ends, border, turn, isMarked, over, walk, endAt, positionOf}
-use Rattle.drawing.specs.Checks.{LengthsFit, InRange, Distinct, Linked, here, turned, crossing as across, Joined, FewMarks, markCount, Crossing, PassesSeven}
+use Rattle.drawing.specs.Checks.{LengthsFit, InRange, Distinct, Linked, here, turned, across, Joined, FewMarks, markCount, Crossing, PassesSeven}
 use Rattle.drawing.proofs.Ends.{over-yes, over-no, walk-permutes}
 use Rattle.tours.specs.Tour.{MeetsAll}
 use Rattle.format.specs.Bytes.{familyBit}
 use Rattle.format.specs.Pack.{endIn, positionIn, drawingOf}
 use Rattle.format.specs.Fits.{Fits}
-use Rattle.words.proofs.Crossing.{crossing-nested}
+use Rattle.words.proofs.Mates.{mate-in-nested}
 use Rattle.roundtrip.proofs.Openings.{opens-seen}
 use Rattle.roundtrip.proofs.Ends.{end-in-closes, border-pairs, position-in-below, position-in-end}
 use Rattle.roundtrip.proofs.Drawing.{drawing-half, drawing-ends, drawing-borders, drawing-marked, drawing-tour, drawing-meets, drawing-permutes, drawing-cells}
@@ -118,7 +118,7 @@ module _ (w : Word) (bal : (K : Family) → Balanced (seen K w) (w .size)) where
       record { fewer = omega (arith, drawing-cells w bal Kind.point) }
 
   -- two positions of one border are partners
-  mates : (p r : ℕ) → p < r → r < w .size → border (endAt (drawingOf w) p) ≡ border (endAt (drawingOf w) r) → r ≡ crossing w p
+  mates : (p r : ℕ) → p < r → r < w .size → border (endAt (drawingOf w) p) ≡ border (endAt (drawingOf w) r) → r ≡ mateIn w p
   mates p r i l e = ⊎-elim
       (λ s. absurd (omega arith))
       (λ s. s)
@@ -137,13 +137,13 @@ module _ (w : Word) (bal : (K : Family) → Balanced (seen K w) (w .size)) where
       let i : t .p < t .q = t .p-q in
       let j : t .q < t .r = t .q-r in
       let k : t .r < t .s = t .r-s in
-      let r-is : t .r ≡ crossing w (t .p) = mates (t .p) (t .r) (omega arith) (omega arith) (t .at-p ∙ sym (t .at-r)) in
-      let s-is : t .s ≡ crossing w (t .q) = mates (t .q) (t .s) (omega arith) l (t .at-q ∙ sym (t .at-s)) in
+      let r-is : t .r ≡ mateIn w (t .p) = mates (t .p) (t .r) (omega arith) (omega arith) (t .at-p ∙ sym (t .at-r)) in
+      let s-is : t .s ≡ mateIn w (t .q) = mates (t .q) (t .s) (omega arith) l (t .at-q ∙ sym (t .at-s)) in
       let p-square : w .letter (t .p) .family ≡ square
       = unmarked-square (t .p) (omega arith) (ap (isMarked (drawingOf w)) (t .at-p) ∙ c .first-unmarked) in
       let q-square : w .letter (t .q) .family ≡ square
       = unmarked-square (t .q) (omega arith) (ap (isMarked (drawingOf w)) (t .at-q) ∙ c .second-unmarked) in
-      crossing-nested w bal (t .p) (t .q) (omega arith) (omega arith) (q-square ∙ sym p-square) i (omega arith) (omega arith)
+      mate-in-nested w bal (t .p) (t .q) (omega arith) (omega arith) (q-square ∙ sym p-square) i (omega arith) (omega arith)
 
 pub drawing-lengths : (m n : ℕ) (w : Word) → Fits (record { m = m; n = n }) w → LengthsFit (drawingOf w)
 unfolding borders drawingOf

@@ -17,7 +17,7 @@ use Rattle.count.proofs.Below.{find-has, find-at-most}
 use Rattle.words.specs.Brackets.{Balanced, step}
 use Rattle.words.specs.declared.family.Family.{Family}
 use Rattle.words.specs.declared.family.Family.the-variants.{Round as round}
-use Rattle.words.specs.Word.{seen, crossing}
+use Rattle.words.specs.Word.{seen, mateIn}
 use Rattle.drawing.specs.Drawing.{Drawing, borders, ends, border, other, turn, isMarked, endAt, positionOf}
 use Rattle.drawing.specs.Renumbered.{newBorder, newEnd, oldEnd, renumbered}
 use Rattle.drawing.proofs.Ends.{across, border-below}
@@ -44,12 +44,12 @@ module _ (D : Drawing) (fair : Faithful D) where
 
   -- the two positions of the border at p
   first-place : (p : ℕ) → p < ends D
-      → min (positionOf D (2 * border (endAt D p))) (positionOf D (2 * border (endAt D p) + 1)) ≡ min p (crossing (wordOf D) p)
+      → min (positionOf D (2 * border (endAt D p))) (positionOf D (2 * border (endAt D p) + 1)) ≡ min p (mateIn (wordOf D) p)
   unfolding border
   first-place p l =
       let h = endAt D p in
       let here : positionOf D h ≡ p = fair .meets .position-end p l in
-      let there : positionOf D (other h) ≡ crossing (wordOf D) p = fair .crosses p l in
+      let there : positionOf D (other h) ≡ mateIn (wordOf D) p = fair .crosses p l in
       ⊎-elim
       (λ z. let a : 2 * (h / 2) ≡ h = omega arith in
       let b : 2 * (h / 2) + 1 ≡ other h = omega (arith, across h .even z) in
@@ -63,7 +63,7 @@ module _ (D : Drawing) (fair : Faithful D) where
   unfolding wordOf
   new-end p l =
       let v = wordOf D in
-      let b : newBorder D (border (endAt D p)) ≡ opensBefore v (min p (crossing v p))
+      let b : newBorder D (border (endAt D p)) ≡ opensBefore v (min p (mateIn v p))
       = new-border-is D (border (endAt D p)) ∙ ap (opensBefore v) (first-place p l) in
       new-end-is D (endAt D p)
       ∙ ap₂ (λ x q. 2 * x + pick (v .letter q .closing) 1 0) b (fair .meets .position-end p l)

@@ -17,7 +17,7 @@ use Rattle.count.proofs.Below.{any-has, any-from}
 use Rattle.words.specs.Brackets.{Balanced}
 use Rattle.words.specs.declared.family.Family.{Family}
 use Rattle.words.specs.declared.family.Family.the-variants.{Round as round, Square as square}
-use Rattle.words.specs.Word.{Word, seen, crossing}
+use Rattle.words.specs.Word.{Word, seen, mateIn}
 use Rattle.drawing.specs.Drawing.{border, isMarked, endAt, isSecond}
 use Rattle.drawing.proofs.Ends.{other-border}
 use Rattle.format.specs.Bytes.{mapBytes}
@@ -25,7 +25,7 @@ use Rattle.format.specs.Pack.{endIn, drawingOf, wordOf, packedBytes}
 use Rattle.format.proofs.Strings.{family-same, family-back}
 use Rattle.format.proofs.Encode.{map-bytes-same}
 use Rattle.format.specs.Fits.{Fits}
-use Rattle.words.proofs.Crossing.{crossing-below, crossing-closes, crossing-earlier}
+use Rattle.words.proofs.Mates.{mate-in-below, mate-in-closes, mate-in-earlier}
 use Rattle.roundtrip.proofs.Ends.{end-in-crossing, border-pairs}
 use Rattle.roundtrip.proofs.Drawing.{drawing-ends, drawing-marked, drawing-tour, drawing-borders, drawing-points}
 
@@ -44,10 +44,10 @@ module _ (w : Word) (bal : (K : Family) → Balanced (seen K w) (w .size)) where
       let k : r .0 < p = r .1 in
       let e : border (endIn w p) ≡ border (endIn w (r .0))
       = sym (border-at p l) ∙ sym (eqb-true (border (endAt (drawingOf w) (r .0))) (border (endAt (drawingOf w) p)) (r .2)) ∙ border-at (r .0) (omega arith) in
-      ⊎-elim (λ s. absurd (omega arith)) (λ s. crossing-earlier w bal p l (omega arith)) (border-pairs w bal p (r .0) l (omega arith) e))
-      (λ t. any-from (met p) p (crossing w p) (crossing-closes w bal p l t)
-      (eq-eqb (border (endAt (drawingOf w) (crossing w p))) (border (endAt (drawingOf w) p))
-      (border-at (crossing w p) (crossing-below w bal p l) ∙ ap border (end-in-crossing w bal p l) ∙ other-border (endIn w p) ∙ sym (border-at p l))))
+      ⊎-elim (λ s. absurd (omega arith)) (λ s. mate-in-earlier w bal p l (omega arith)) (border-pairs w bal p (r .0) l (omega arith) e))
+      (λ t. any-from (met p) p (mateIn w p) (mate-in-closes w bal p l t)
+      (eq-eqb (border (endAt (drawingOf w) (mateIn w p))) (border (endAt (drawingOf w) p))
+      (border-at (mateIn w p) (mate-in-below w bal p l) ∙ ap border (end-in-crossing w bal p l) ∙ other-border (endIn w p) ∙ sym (border-at p l))))
 
   pub drawing-size : wordOf (drawingOf w) .size ≡ w .size
   unfolding wordOf

@@ -9,7 +9,7 @@ use Rattle.orbits.specs.Cycles.{Permutes}
 use Rattle.words.specs.Brackets.{Balanced, step}
 use Rattle.words.specs.declared.family.Family.{Family}
 use Rattle.words.specs.declared.family.Family.the-variants.{Round as round}
-use Rattle.words.specs.Word.{seen, crossing}
+use Rattle.words.specs.Word.{seen, mateIn}
 use Rattle.drawing.specs.Drawing.{Drawing, ends, other, turn, endAt, positionOf}
 use Rattle.drawing.specs.Checks.{InRange}
 use Rattle.tours.specs.Tour.{MeetsAll}
@@ -20,5 +20,5 @@ pub record Faithful (D : Drawing) : Type 0 where
   pub turns : Permutes (ends D) (turn D)
   pub meets : MeetsAll D
   pub balanced : (K : Family) → Balanced (seen K (wordOf D)) (ends D)
-  pub crosses : (p : ℕ) → p < ends D → positionOf D (other (endAt D p)) ≡ crossing (wordOf D) p
+  pub crosses : (p : ℕ) → p < ends D → positionOf D (other (endAt D p)) ≡ mateIn (wordOf D) p
   pub steps : (p : ℕ) → p < ends D → positionOf D (turn D (endAt D p)) ≡ step (seen round (wordOf D)) (ends D) p

@@ -1,16 +1,16 @@
 // Runs the examples of document 01's table, rows 1 to 17, and of 20 and 21, and writes for each its number and the number that came:
 // they are the same in every line. Then the drawings of (a) to (c), which are accepted: 0.
-use format::LONGEST;
-use libc::STDOUT_FILENO;
 use answers::Area;
 use answers::Count;
 use answers::Opened;
+use answers::Packed;
+use answers::Parsed;
 use answers::Place;
 use answers::PlaceAnswer;
 use answers::Point;
-use answers::Packed;
-use answers::Parsed;
 use answers::Unpacked;
+use format::LONGEST;
+use libc::STDOUT_FILENO;
 
 const SHORT: usize = LONGEST - 1;
 

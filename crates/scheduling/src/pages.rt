@@ -2,8 +2,8 @@
 use crate::rows::put_break;
 use crate::rows::put_row;
 use crate::rows::put_total;
-use lending::wide;
 use layout::areas;
+use lending::wide;
 ghost use mathlib.Core.Path.{_≡_};
 ghost use Prim.Native.Nat.{_≤_};
 ghost use lib.ListN.{length};

@@ -21,7 +21,7 @@ use Rattle.answers.specs.declared.numbers.Point.{Point}
 use Rattle.answers.specs.Answer.{Kind}
 use Rattle.words.specs.Brackets.{Bracket, Balanced, inner, number, step, first, size}
 use Rattle.words.specs.declared.family.Family.the-variants.{Round as round}
-use Rattle.words.specs.Word.{seen, Word, crossing}
+use Rattle.words.specs.Word.{seen, Word, mateIn}
 use Rattle.words.proofs.Stack.{inner-le}
 use Rattle.words.proofs.Step.{step-below, inner-step}
 use Rattle.words.proofs.Numbers.{inner-number, number-inner}
@@ -93,11 +93,11 @@ module _ (w : Word) (v : ℕ) where
   unfolding joinIn
   join-zero p = refl
 
-  join-yes : (k p : ℕ) → eqb (number (seen round w) (crossing w p)) v ≡ true → joinIn w v (suc k) p ≡ suc p
+  join-yes : (k p : ℕ) → eqb (number (seen round w) (mateIn w p)) v ≡ true → joinIn w v (suc k) p ≡ suc p
   unfolding joinIn
   join-yes k p e = rw (e, joinIn)
 
-  join-no : (k p : ℕ) → eqb (number (seen round w) (crossing w p)) v ≡ false → joinIn w v (suc k) p ≡ joinIn w v k (step (seen round w) (w .size) p)
+  join-no : (k p : ℕ) → eqb (number (seen round w) (mateIn w p)) v ≡ false → joinIn w v (suc k) p ≡ joinIn w v k (step (seen round w) (w .size) p)
   unfolding joinIn
   join-no k p e = rw (e, joinIn)
 
@@ -127,25 +127,25 @@ module _ (s : List ℕ) (v f most : ℕ) where
     joining-more n e z =
         record { is = λ h. absurd (omega arith); enough = λ h. absurd (omega (arith, J .room h, J .at .below)) }
 
-    lands : (q x : ℕ) → q ≡ crossing (wordIn s) p → x ≡ number (seen round (wordIn s)) q → number (seen round (wordIn s)) (crossing (wordIn s) p) ≡ x
+    lands : (q x : ℕ) → q ≡ mateIn (wordIn s) p → x ≡ number (seen round (wordIn s)) q → number (seen round (wordIn s)) (mateIn (wordIn s) p) ≡ x
     lands q x C e = ap (number (seen round (wordIn s))) (sym C) ∙ sym e
 
     some : rest-at p ≡ suc (rest-at p - 1)
     unfolding rest-at
     some = left-some (seen round (wordIn s)) (bitsA (sizeIn s)) f (nested s round (J .at .opens)) p (J .at .below) (J .of)
 
-    pub joining-here : (q x : ℕ) → q ≡ crossing (wordIn s) p → x ≡ number (seen round (wordIn s)) q → x ≡ v → Early (bitsA (sizeIn s)) most (joinedFrom s v f) (p + 1)
+    pub joining-here : (q x : ℕ) → q ≡ mateIn (wordIn s) p → x ≡ number (seen round (wordIn s)) q → x ≡ v → Early (bitsA (sizeIn s)) most (joinedFrom s v f) (p + 1)
     joining-here q x C e h =
-        let t = eq-eqb (number (seen round (wordIn s)) (crossing (wordIn s) p)) v (lands q x C e ∙ h) in
+        let t = eq-eqb (number (seen round (wordIn s)) (mateIn (wordIn s) p)) v (lands q x C e ∙ h) in
         let z : joinIn (wordIn s) v (rest-at p) p ≡ suc p = ap (λ y. joinIn (wordIn s) v y p) some ∙ join-yes (wordIn s) v (rest-at p - 1) p t in
         record { is = λ l. omega (arith, J .rest); enough = λ l. omega (arith, J .at .below) }
 
-    module _ (q x r : ℕ) (C : q ≡ crossing (wordIn s) p) (e : x ≡ number (seen round (wordIn s)) q) (m : x ≡ v → ⊥)
+    module _ (q x r : ℕ) (C : q ≡ mateIn (wordIn s) p) (e : x ≡ number (seen round (wordIn s)) q) (m : x ≡ v → ⊥)
         (h : r ≡ step (seen round (wordIn s)) (bitsA (sizeIn s)) p) where
       on : (k : ℕ) → rest-at p ≡ suc k → joinIn (wordIn s) v k (step (seen round (wordIn s)) (bitsA (sizeIn s)) p) ≡ joinedFrom s v f
       unfolding wordIn
       on k i =
-          let o = ne-eqb (number (seen round (wordIn s)) (crossing (wordIn s) p)) v (λ y. m (sym (lands q x C e) ∙ y)) in
+          let o = ne-eqb (number (seen round (wordIn s)) (mateIn (wordIn s) p)) v (λ y. m (sym (lands q x C e) ∙ y)) in
           sym (ap (λ y. joinIn (wordIn s) v y p) i ∙ join-no (wordIn s) v k p o) ∙ J .rest
 
       last : step (seen round (wordIn s)) (bitsA (sizeIn s)) p ≤ p → Early (bitsA (sizeIn s)) most (joinedFrom s v f) 0

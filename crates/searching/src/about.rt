@@ -1,9 +1,9 @@
 // The search about a point for a border that joins it with another, in one loop in turning order.
+use answers::Point;
 use layout::bits_a;
 use opening::Cell;
-use answers::Point;
 use sizing::size_at;
-use surveying::crossing_in;
+use surveying::own_mate_in;
 use surveying::point_in;
 use surveying::survey;
 use walking::first_at;
@@ -85,7 +85,7 @@ fn join_from(map: &[u8], mates: &[u16], points: &[u16], v: Point, most: usize, f
         if left == 0 {
             break n + 1;
         }
-        let q = crossing_in(map, mates, p);
+        let q = own_mate_in(map, mates, p);
         let at = point_in(map, points, q);
         if at.0 == to {
             break p + 1;

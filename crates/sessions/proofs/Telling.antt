@@ -21,7 +21,7 @@ use Rattle.count.proofs.Logic.{same-or-not, both, not-both, pick-yes, pick-no}
 use Rattle.answers.specs.Answer.{Answer, answer, refused, numberOf, valueOf}
 use Rattle.words.specs.Brackets.{step, number}
 use Rattle.words.specs.declared.family.Family.the-variants.{Round as round, Square as square}
-use Rattle.words.specs.Word.{seen, crossing}
+use Rattle.words.specs.Word.{seen, mateIn}
 use Rattle.drawing.specs.Session.{Call, isMove, placeAfter}
 use Rattle.format.specs.Bytes.{sizeIn, bitsA, wordIn}
 use Rattle.format.specs.Open.{openRefusal}
@@ -124,7 +124,7 @@ module _ (s : List ℕ) (code p : ℕ) (P : Position s p) where
   value-of : (c : Call) (r : ℕ) → callOf code ≡ c → r ≡ moveIn (wordIn s) c p → Finds (wordIn s) (callOf code) p r
   value-of c r h e = record { is = e ∙ ap (λ x. moveIn (wordIn s) x p) (sym h); fits = value-fits s c p r P e }
 
-  pub value-cross : (r : ℕ) → code ≡ 0 → r ≡ crossing (wordIn s) p → Finds (wordIn s) (callOf code) p (r + 1)
+  pub value-cross : (r : ℕ) → code ≡ 0 → r ≡ mateIn (wordIn s) p → Finds (wordIn s) (callOf code) p (r + 1)
   unfolding moveIn callOf
   value-cross r h e = value-of Call.cross (r + 1) (ap callOf h) (omega arith)
 

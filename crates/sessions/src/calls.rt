@@ -6,8 +6,8 @@ use crate::codes::TURN;
 use crate::codes::TURN_BACK;
 use layout::bits_a;
 use surveying::area_in;
-use surveying::crossing_in;
 use surveying::mate_in;
+use surveying::own_mate_in;
 use surveying::point_in;
 use surveying::step_in;
 use walking::turn_back_past;
@@ -81,7 +81,7 @@ fn value_at(map: &[u8], mates: &[u16], areas: &[u16], points: &[u16], code: u8, 
     ensures { λ r. ⌜ Finds (wordIn (now (map .entry))) (callOf code) p r ⌝ }
 {
     match code {
-        CROSS => crossing_in(map, mates, p) + 1,
+        CROSS => own_mate_in(map, mates, p) + 1,
         TURN => turn_in(map, mates, p),
         TURN_BACK => turn_back_in(map, mates, p),
         ALONG => step_in(map, mates, Family::Square, p) + 1,

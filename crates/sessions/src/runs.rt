@@ -1,8 +1,8 @@
 // A session: the checks, once, then one call after the other, with the place passed on.
-use answers::Ran;
 use crate::calls::tell;
 use crate::codes::NO_CALL;
 use crate::codes::are_calls;
+use answers::Ran;
 use layout::bits_a;
 use surveying::survey;
 ghost use mathlib.Core.Path.{_≡_};

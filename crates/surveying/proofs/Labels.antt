@@ -19,7 +19,7 @@ use Rattle.words.specs.declared.family.Family.{Family}
 use Rattle.words.specs.Word.{Word, seen}
 use Rattle.words.proofs.Stack.{zero-or-more, inner-opens-at}
 use Rattle.words.proofs.Numbers.{openings, openings-more, number-is}
-use Rattle.words.proofs.Crossing.{seen-opens}
+use Rattle.words.proofs.Mates.{seen-opens}
 
 pub record Labelled (w : Word) (p : ℕ) (l : List ℕ) : Type 0 where
   pub outside : getD l 0 0 ≡ 1

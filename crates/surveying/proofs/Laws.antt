@@ -25,8 +25,8 @@ use Rattle.count.proofs.Lists.{table-length, table-getD}
 use Rattle.answers.specs.Lent.{laid}
 use Rattle.words.specs.Brackets.{number, first, size}
 use Rattle.words.specs.declared.family.Family.{Family}
-use Rattle.words.specs.Word.{seen, crossing}
-use Rattle.words.proofs.Crossing.{crossing-below}
+use Rattle.words.specs.Word.{seen, mateIn}
+use Rattle.words.proofs.Mates.{mate-in-below}
 use Rattle.format.specs.Bytes.{sizeIn, bitsA, wordIn}
 use Rattle.format.specs.Open.{openRefusal}
 use Rattle.walking.proofs.Decoded.{nested, places-most}
@@ -62,7 +62,7 @@ module _ (s l old : List ℕ) where
   pub mates-are : l ≡ laid (matesIn s) old → Mates s l
   unfolding matesIn
   mates-are e =
-      let f : ℕ → ℕ = crossing (wordIn s) in
+      let f : ℕ → ℕ = mateIn (wordIn s) in
       let n : ℕ = bitsA (sizeIn s) in
       rw e (record { at = λ p i j. laid-here f n old p i })
 
@@ -88,12 +88,12 @@ module _ (s l : List ℕ) (K : Family) (N : Numbers K s l) (r : bitsA (sizeIn s)
       find-same (λ p. eqb (number (seen K (wordIn s)) p) k) (λ p. eqb (getD l p 0) k) (bitsA (sizeIn s)) (same-test k)
 
   pub listed-across : (m : List ℕ) (p : ℕ) → openRefusal s ≡ 0 → Mates s m → bitsA (sizeIn s) ≤ length m → p < bitsA (sizeIn s)
-      → getD l (getD m p 0) 0 ≡ number (seen K (wordIn s)) (crossing (wordIn s) p)
+      → getD l (getD m p 0) 0 ≡ number (seen K (wordIn s)) (mateIn (wordIn s) p)
   unfolding wordIn
   listed-across m p o M h i =
-      let e : getD m p 0 ≡ crossing (wordIn s) p = M .at p i (omega arith) in
-      let b = crossing-below (wordIn s) (λ X. nested s X o) p i in
-      ap (λ x. getD l x 0) e ∙ N .at (crossing (wordIn s) p) b (omega arith)
+      let e : getD m p 0 ≡ mateIn (wordIn s) p = M .at p i (omega arith) in
+      let b = mate-in-below (wordIn s) (λ X. nested s X o) p i in
+      ap (λ x. getD l x 0) e ∙ N .at (mateIn (wordIn s) p) b (omega arith)
 
 -- ---- lists of the whole map
 module _ (s old l : List ℕ) (O : openRefusal s ≡ 0) (h : length old ≡ 4096) where
@@ -105,7 +105,7 @@ module _ (s old l : List ℕ) (O : openRefusal s ≡ 0) (h : length old ≡ 4096
 
   pub mates-long : l ≡ laid (matesIn s) old → 4096 ≡ length l
   unfolding matesIn
-  mates-long e = laid-long (crossing (wordIn s)) e
+  mates-long e = laid-long (mateIn (wordIn s)) e
 
   pub numbers-long : (K : Family) → l ≡ laid (numbersIn K s) old → 4096 ≡ length l
   unfolding numbersIn

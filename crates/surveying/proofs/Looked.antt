@@ -11,7 +11,7 @@ use native.Mathlib.Omega.{arith}
 use lib.ListN.{length, getD}
 use Rattle.words.specs.Brackets.{mate, number}
 use Rattle.words.specs.declared.family.Family.{Family}
-use Rattle.words.specs.Word.{seen, crossing}
+use Rattle.words.specs.Word.{seen, mateIn}
 use Rattle.words.proofs.Mate.{mate-below}
 use Rattle.bits.specs.Strings.{bit}
 use Rattle.format.specs.Bytes.{sizeIn, bitsA, partA, familyBit, wordIn}
@@ -21,11 +21,11 @@ use Rattle.walking.proofs.Walks.{mate-crossed}
 use Rattle.surveying.specs.Surveyed.{Mates, Numbers}
 
 module _ (s : List ℕ) (p : ℕ) (P : Position s p) where
-  pub cross-in : (l : List ℕ) (r : ℕ) → Mates s l → p < length l → r ≡ getD l p 0 → r ≡ crossing (wordIn s) p
+  pub cross-in : (l : List ℕ) (r : ℕ) → Mates s l → p < length l → r ≡ getD l p 0 → r ≡ mateIn (wordIn s) p
   cross-in l r M i e = e ∙ M .at p (P .below) i
 
   pub cross-in-at : (l : List ℕ) (r : ℕ) → Mates s l → p < length l → r ≡ getD l p 0 → Position s r
-  unfolding crossing wordIn
+  unfolding mateIn wordIn
   cross-in-at l r M i e =
       let K : Family = wordIn s .letter p .family in
       let b = mate-below (seen K (wordIn s)) (bitsA (sizeIn s)) (nested s K (P .opens)) p (P .below) in

@@ -20,16 +20,16 @@ use Rattle.count.proofs.Logic.{same-or-not}
 use Rattle.answers.specs.Lent.{laid}
 use Rattle.words.specs.Brackets.{Balanced, opens, closes, inner, mate}
 use Rattle.words.specs.declared.family.Family.{Family}
-use Rattle.words.specs.Word.{Word, seen, crossing}
+use Rattle.words.specs.Word.{Word, seen, mateIn}
 use Rattle.words.proofs.Mate.{inner-closing}
-use Rattle.words.proofs.Crossing.{seen-opens, seen-closes, mate-own, crossing-opens, crossing-closes, crossing-below, crossing-involutive, crossing-family}
+use Rattle.words.proofs.Mates.{seen-opens, seen-closes, mate-own, mate-in-opens, mate-in-closes, mate-in-below, mate-in-involutive, mate-in-family}
 use Rattle.surveying.proofs.Laws.{laid-table}
 
 pub record Paired (w : Word) (old : List ℕ) (p : ℕ) (l : List ℕ) : Type 0 where
   pub room : w .size ≤ length old
   pub long : length l ≡ length old
-  pub paired : (q : ℕ) → q < p → crossing w q < p → getD l q 0 ≡ crossing w q
-  pub pending : (q : ℕ) → q < p → p ≤ crossing w q → getD l q 0 ≡ inner (seen (w .letter q .family) w) q
+  pub paired : (q : ℕ) → q < p → mateIn w q < p → getD l q 0 ≡ mateIn w q
+  pub pending : (q : ℕ) → q < p → p ≤ mateIn w q → getD l q 0 ≡ inner (seen (w .letter q .family) w) q
   pub rest : (q : ℕ) → p ≤ q → getD l q 0 ≡ getD old q 0
 
 module _ (w : Word) (old : List ℕ) where
@@ -44,10 +44,10 @@ module _ (w : Word) (old : List ℕ) where
       }
 
   pub paired-end : (p : ℕ) (l : List ℕ) → ((K : Family) → Balanced (seen K w) (w .size)) → Paired w old p l → w .size ≡ p
-      → l ≡ laid (table (crossing w) (w .size)) old
+      → l ≡ laid (table (mateIn w) (w .size)) old
   paired-end p l bal P e =
-      laid-table (crossing w) (w .size) old l (P .long) (P .room)
-      (λ q i. P .paired q (omega arith) (omega (arith, crossing-below w bal q i)))
+      laid-table (mateIn w) (w .size) old l (P .long) (P .room)
+      (λ q i. P .paired q (omega arith) (omega (arith, mate-in-below w bal q i)))
       (λ q i. P .rest q (omega arith))
 
   module _ (bal : (K : Family) → Balanced (seen K w) (w .size)) (K : Family) (p : ℕ) (i : p < w .size) (l : List ℕ) (P : Paired w old p l) where
@@ -55,23 +55,23 @@ module _ (w : Word) (old : List ℕ) where
     here = omega (arith, P .room, P .long)
 
     -- who crosses to p is who p crosses to
-    crossed : (q : ℕ) → q < w .size → crossing w q ≡ p → q ≡ crossing w p
-    crossed q j e = sym (crossing-involutive w bal q j) ∙ ap (crossing w) e
+    crossed : (q : ℕ) → q < w .size → mateIn w q ≡ p → q ≡ mateIn w p
+    crossed q j e = sym (mate-in-involutive w bal q j) ∙ ap (mateIn w) e
 
     pub paired-opens : (x : ℕ) → seen K w p ≡ opens → x ≡ inner (seen K w) p → Paired w old (p + 1) (set l p x)
     paired-opens x o e =
         let h = seen-opens w K p o in
-        let up : p < crossing w p = crossing-opens w bal p i (h .1) in
+        let up : p < mateIn w p = mate-in-opens w bal p i (h .1) in
         record {
           room = P .room;
           long = length-set l p x ∙ P .long;
           paired = λ q j k.
               elim (same-or-not q p) [
-                | inl c ↦ let z : p < crossing w q = rw c up in absurd (omega arith)
+                | inl c ↦ let z : p < mateIn w q = rw c up in absurd (omega arith)
                 | inr c ↦
                     getD-set-other l p q x 0 c
                     ∙ P .paired q (omega arith)
-                    (elim (same-or-not (crossing w q) p) [
+                    (elim (same-or-not (mateIn w q) p) [
                       | inl d ↦ absurd (let z = crossed q (omega arith) d in omega arith)
                       | inr d ↦ omega arith
                     ])
@@ -87,28 +87,28 @@ module _ (w : Word) (old : List ℕ) where
         }
 
     module _ (q : ℕ) (o : seen K w p ≡ closes) (e : inner (seen K w) p ≡ q + 1) where
-      opening : q ≡ crossing w p
+      opening : q ≡ mateIn w p
       opening =
           let h = seen-closes w K p o in
-          let m : mate (seen K w) (w .size) p ≡ crossing w p = mate-own w K p (h .0) in
+          let m : mate (seen K w) (w .size) p ≡ mateIn w p = mate-own w K p (h .0) in
           omega (arith, inner-closing (seen K w) (w .size) (bal K) p i o)
 
       earlier : q < p
-      earlier = let h = crossing-closes w bal p i (seen-closes w K p o .1) in let g = opening in omega arith
+      earlier = let h = mate-in-closes w bal p i (seen-closes w K p o .1) in let g = opening in omega arith
 
-      returned : crossing w q ≡ p
-      returned = ap (crossing w) opening ∙ crossing-involutive w bal p i
+      returned : mateIn w q ≡ p
+      returned = ap (mateIn w) opening ∙ mate-in-involutive w bal p i
 
       pub paired-entry : getD l q 0 ≡ inner (seen K w) q
       paired-entry =
-          let f : w .letter q .family ≡ K = ap (λ z. w .letter z .family) opening ∙ crossing-family w bal p i ∙ seen-closes w K p o .0 in
+          let f : w .letter q .family ≡ K = ap (λ z. w .letter z .family) opening ∙ mate-in-family w bal p i ∙ seen-closes w K p o .0 in
           P .pending q earlier (let r = returned in omega arith) ∙ ap (λ X. inner (seen X w) q) f
 
       pub paired-closes : Paired w old (p + 1) (set (set l q p) p q)
       paired-closes =
           let b : q < p = earlier in
-          let r : crossing w q ≡ p = returned in
-          let o′ : q ≡ crossing w p = opening in
+          let r : mateIn w q ≡ p = returned in
+          let o′ : q ≡ mateIn w p = opening in
           let in-list : p < length (set l q p) = omega (arith, length-set l q p, here) in
           let other : (x : ℕ) → x ≢ p → x ≢ q → getD (set (set l q p) p q) x 0 ≡ getD l x 0
           = λ x c d. getD-set-other (set l q p) p x q 0 c ∙ getD-set-other l q x p 0 d in
@@ -118,18 +118,18 @@ module _ (w : Word) (old : List ℕ) where
             paired = λ x j k.
                 elim (same-or-not x p) [
                   | inl c ↦
-                      ap (λ z. getD (set (set l q p) p q) z 0) c ∙ getD-set-same (set l q p) p q 0 in-list ∙ o′ ∙ ap (crossing w) (sym c)
+                      ap (λ z. getD (set (set l q p) p q) z 0) c ∙ getD-set-same (set l q p) p q 0 in-list ∙ o′ ∙ ap (mateIn w) (sym c)
                   | inr c ↦
                       elim (same-or-not x q) [
                         | inl d ↦
                             ap (λ z. getD (set (set l q p) p q) z 0) d
                             ∙ getD-set-other (set l q p) p q q 0 (λ z. omega arith)
                             ∙ getD-set-same l q p 0 (omega (arith, here))
-                            ∙ sym r ∙ ap (crossing w) (sym d)
+                            ∙ sym r ∙ ap (mateIn w) (sym d)
                         | inr d ↦
                             other x c d
                             ∙ P .paired x (omega arith)
-                            (elim (same-or-not (crossing w x) p) [
+                            (elim (same-or-not (mateIn w x) p) [
                               | inl y ↦ absurd (d (crossed x (omega arith) y ∙ sym o′))
                               | inr y ↦ omega arith
                             ])
@@ -137,10 +137,10 @@ module _ (w : Word) (old : List ℕ) where
                 ];
             pending = λ x j k.
                 elim (same-or-not x p) [
-                  | inl c ↦ let z : crossing w x ≡ q = ap (crossing w) c ∙ sym o′ in absurd (omega arith)
+                  | inl c ↦ let z : mateIn w x ≡ q = ap (mateIn w) c ∙ sym o′ in absurd (omega arith)
                   | inr c ↦
                       elim (same-or-not x q) [
-                        | inl d ↦ let z : crossing w x ≡ p = ap (crossing w) d ∙ r in absurd (omega arith)
+                        | inl d ↦ let z : mateIn w x ≡ p = ap (mateIn w) d ∙ r in absurd (omega arith)
                         | inr d ↦ other x c d ∙ P .pending x (omega arith) (omega arith)
                       ]
                 ];

@@ -19,18 +19,18 @@ use Rattle.count.proofs.Counts.{count-le}
 use Rattle.words.specs.Brackets.{opens, closes, isOpens, inner, number}
 use Rattle.words.specs.declared.family.Family.{Family}
 use Rattle.words.specs.declared.family.Family.the-variants.{Round as round, Square as square}
-use Rattle.words.specs.Word.{seen, crossing}
+use Rattle.words.specs.Word.{seen}
 use Rattle.words.proofs.Letters.{opens-not-closes}
 use Rattle.words.proofs.Stack.{inner-le}
 use Rattle.words.proofs.Numbers.{number-is}
-use Rattle.words.proofs.Crossing.{seen-opens, seen-closes}
+use Rattle.words.proofs.Mates.{seen-opens, seen-closes}
 use Rattle.bits.specs.Strings.{bit, rank}
 use Rattle.drawing.specs.Drawing.{mostEnds}
 use Rattle.format.specs.Bytes.{sizeIn, bitsA, partA, partB, familyBit, wordIn}
 use Rattle.format.specs.Open.{openRefusal}
 use Rattle.walking.proofs.Decoded.{seen-neither, nested, places-most}
 use Rattle.walking.proofs.Decoded as decoded
-use Rattle.surveying.specs.Passing.{Lists, Begun, Two, Openable, Closable, Passable, Pushes, Pops, Passes}
+use Rattle.surveying.specs.Passing.{Lists, Begun, Two, Closable, Passable, Pushes, Pops, Passes}
 use Rattle.surveying.proofs.Fronts.{Fronted, fronted-start, fronted-stays, fronted-opens, fronted-closes}
 use Rattle.surveying.proofs.Labels.{Labelled, labelled-start, labelled-opens, labelled-stays, labelled-entry}
 use Rattle.surveying.proofs.Pairs.{Paired, paired-start, paired-opens, paired-entry, paired-closes}

@@ -7,8 +7,8 @@
 -- read-few, read-here == the next bit that is read, and its place
 -- surveying-passable, surveying-more == the bracket at p can be passed, and is
 -- Assumes nothing.
-use mathlib.Core.Path.{_≡_, refl, sym, ap, _∙_}
-use mathlib.Core.Logic.{_⊎_, inl, inr, ⊎-elim}
+use mathlib.Core.Path.{_≡_, sym, ap, _∙_}
+use mathlib.Core.Logic.{inl, inr}
 use mathlib.Core.List.{List}
 use Prim.Native.Nat.{ℕ, _+_, _*_, _<_, _≤_}
 use native.Mathlib.Omega.{arith}
@@ -28,7 +28,7 @@ use Rattle.surveying.specs.Passing.{Lists, Begun, Passable, Passes}
 use Rattle.surveying.specs.Surveyed.{matesIn, numbersIn, Mates, Numbers}
 use Rattle.surveying.proofs.Laws.{mates-are, numbers-are}
 use Rattle.surveying.proofs.Filled.{Filled, filled-start, filled-more, filled-end}
-use Rattle.surveying.proofs.Pairs.{Paired, paired-end}
+use Rattle.surveying.proofs.Pairs.{paired-end}
 use Rattle.surveying.proofs.Passed.{Known, known-start, known-passable, known-more}
 use Rattle.surveying.proofs.Unread.{Unread, unread-start, unread-few, unread-more, unread-bit}
 

@@ -13,13 +13,13 @@ use lib.ListN.{length, getD}
 use Rattle.count.specs.Below.{table}
 use Rattle.words.specs.Brackets.{number}
 use Rattle.words.specs.declared.family.Family.{Family}
-use Rattle.words.specs.Word.{seen, crossing}
+use Rattle.words.specs.Word.{seen, mateIn}
 use Rattle.format.specs.Bytes.{sizeIn, bitsA, wordIn}
 
 -- 01, Moves: "Cross: the place of the other end."
 unfoldable pub matesIn : List ℕ → List ℕ
-unfolding table crossing wordIn sizeIn
-matesIn s = table (crossing (wordIn s)) (bitsA (sizeIn s))
+unfolding table mateIn wordIn sizeIn
+matesIn s = table (mateIn (wordIn s)) (bitsA (sizeIn s))
 
 -- 01, Moves: "Point and area of a place"
 unfoldable pub numbersIn : Family → List ℕ → List ℕ
@@ -28,7 +28,7 @@ numbersIn K s = table (number (seen K (wordIn s))) (bitsA (sizeIn s))
 
 -- a list with no entries holds nothing that is wrong
 pub record Mates (s l : List ℕ) : Type 0 where
-  pub at : (p : ℕ) → p < bitsA (sizeIn s) → p < length l → getD l p 0 ≡ crossing (wordIn s) p
+  pub at : (p : ℕ) → p < bitsA (sizeIn s) → p < length l → getD l p 0 ≡ mateIn (wordIn s) p
 
 pub record Numbers (K : Family) (s l : List ℕ) : Type 0 where
   pub at : (p : ℕ) → p < bitsA (sizeIn s) → p < length l → getD l p 0 ≡ number (seen K (wordIn s)) p

@@ -1,7 +1,7 @@
 // The whole map in one pass: the mate, the area and the point of every place, for calls that ask about many.
 //
 //     survey                   fills three lists of a map, each with an entry for every place
-//     crossing_in              the partner of a position, in its own family
+//     own_mate_in              the partner of a position, in its own family
 //     mate_in, step_in         its partner in a family; the next position about the same point, the same area
 //     point_in, area_in        its point, its area
 //
@@ -20,8 +20,8 @@ mod moves;
 mod pass;
 
 pub use moves::area_in;
-pub use moves::crossing_in;
 pub use moves::mate_in;
+pub use moves::own_mate_in;
 pub use moves::point_in;
 pub use moves::step_in;
 pub use pass::survey;

@@ -1,33 +1,33 @@
 // Moves and numbers, looked up in lists of a map. What a list has no entry for is found by walking through the bytes: few
 // questions are cheaper that way, and an empty list serves them.
-use lending::wide;
+use answers::Area;
+use answers::Point;
 use layout::bits_a;
 use layout::family_bit;
 use layout::part_a;
-use answers::Area;
-use answers::Point;
+use lending::wide;
 use walking::after;
-use walking::crossing_at;
 use walking::mate_at;
 use walking::number_at;
+use walking::own_mate_at;
 use words::Family;
 ghost use mathlib.Core.Path.{_≡_};
 ghost use Rattle.words.specs.Brackets.{mate, step, number};
 ghost use Rattle.words.specs.declared.family.Family.the-variants.{Round as round, Square as square};
-ghost use Rattle.words.specs.Word.{seen, crossing};
+ghost use Rattle.words.specs.Word.{seen, mateIn};
 ghost use Rattle.format.specs.Bytes.{sizeIn, bitsA, wordIn};
 ghost use Rattle.walking.specs.Positions.{Position};
 ghost use Rattle.surveying.specs.Surveyed.{Mates, Numbers};
 
 // The partner of position p, in its own family.
-pub fn crossing_in(map: &[u8], mates: &[u16], p: usize) -> usize
+pub fn own_mate_in(map: &[u8], mates: &[u16], p: usize) -> usize
     requires { ⌜ Position (now map) p × Mates (now map) (now mates) ⌝ }
-    ensures { λ r. ⌜ (r ≡ crossing (wordIn (now (map .entry))) p) × Position (now (map .entry)) r ⌝ }
+    ensures { λ r. ⌜ (r ≡ mateIn (wordIn (now (map .entry))) p) × Position (now (map .entry)) r ⌝ }
 {
     if p < mates.len() {
         wide(mates[p])
     } else {
-        crossing_at(map, p)
+        own_mate_at(map, p)
     }
 }
 

@@ -2,10 +2,10 @@
 //
 // What it knows of a family stands in lists of two entries, at the bit that A has for the family: 1 for the round brackets, 0
 // for the square ones. So the family is an index and not a jump, which the brackets of a map would make slow.
-use lending::wide;
 use layout::bits_a;
 use layout::part_a;
 use layout::start_b;
+use lending::wide;
 use words::Family;
 ghost use mathlib.Core.Path.{_≡_};
 ghost use Prim.Native.Nat.{_+_, _*_, _≤_};

@@ -8,7 +8,7 @@
 -- factored         == document 02, 4/14, of the factor of an area
 -- Assumes nothing.
 use mathlib.Core.Path.{_≡_, refl, sym, ap, _∙_, subst}
-use mathlib.Core.Bool.{Bool, true, false}
+use mathlib.Core.Bool.{true}
 use mathlib.Core.List.{List}
 use Prim.Native.Nat.{ℕ, zero, suc, _≤_, _<_}
 use native.Mathlib.Omega.{arith}
@@ -16,18 +16,17 @@ use lib.Dec.{ltb, leb}
 use borrow.Author.Tests.{ltb-true, leb-true}
 use lib.Ieee.{Float, le}
 use lib.ListN.{getD, drop}
-use Rattle.count.specs.Below.{pick}
 use Rattle.count.proofs.Logic.{both-left, both-right}
 use Rattle.answers.specs.Checks.{Check}
 use Rattle.answers.proofs.Steps.{Passed, none-append, answered-all, answered-none}
-use Rattle.answers.specs.Answer.{answer, refused, Kind}
+use Rattle.answers.specs.Answer.{answer, Kind}
 use Rattle.format.specs.Bytes.{sizeIn, wordIn}
 use Rattle.format.specs.Open.{openChecks, openRefusal}
-use Rattle.format.specs.Calls.{cellsIn, isNumber, landingsIn}
+use Rattle.format.specs.Calls.{cellsIn, landingsIn}
 use Rattle.format.proofs.Passes.{opened}
 use Rattle.tariff.specs.declared.factor.Factor.{Factor}
 use Rattle.tariff.specs.declared.factor.Running.{Running}
-use Rattle.tariff.specs.Tariff.{factorAt, held, allowed, TariffFits, tariffFits, sumAcross, hasFactor, mean, worth, rated}
+use Rattle.tariff.specs.Tariff.{factorAt, held, allowed, TariffFits, sumAcross, hasFactor, mean, worth, rated}
 use Rattle.tariff.specs.Maps.{factorOf, factorChecks, factorIn}
 use Rattle.tariff.specs.Statements.{Factored}
 use Rattle.tariff.proofs.Lists.{tariff-decides}

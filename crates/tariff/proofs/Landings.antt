@@ -18,9 +18,9 @@ use Rattle.answers.specs.Answer.{Kind}
 use Rattle.words.specs.Brackets.{Balanced, step, number, first, size}
 use Rattle.words.specs.declared.family.Family.{Family}
 use Rattle.words.specs.declared.family.Family.the-variants.{Square as square}
-use Rattle.words.specs.Word.{Word, seen, crossing}
+use Rattle.words.specs.Word.{Word, seen, mateIn}
 use Rattle.words.proofs.Step.{step-below}
-use Rattle.words.proofs.Crossing.{crossing-below}
+use Rattle.words.proofs.Mates.{mate-in-below}
 use Rattle.words.proofs.Sizes.{first-below}
 use Rattle.drawing.specs.Neighbours.{landings}
 use Rattle.format.specs.Bytes.{sizeIn, bitsA, wordIn}
@@ -47,7 +47,7 @@ module _ (w : Word) (k : ℕ) where
   pub landings-long : length (landingsIn w k) ≡ placesIn w Kind.area k
   unfolding landingsIn
   landings-long =
-      landings-length (number (seen square w)) (crossing w) (step (seen square w) (w .size)) (placesIn w Kind.area k)
+      landings-length (number (seen square w)) (mateIn w) (step (seen square w) (w .size)) (placesIn w Kind.area k)
       (first (seen square w) (w .size) k)
 
   places-most : placesIn w Kind.area k ≤ w .size
@@ -61,7 +61,7 @@ module _ (w : Word) (k : ℕ) where
       let b = seen square w in
       let n = w .size in
       let h : i < size b n k = omega (arith, landings-long) in
-      landings-each (number b) (crossing w) (step b n) P n (λ p u. a (crossing w p) (crossing-below w bal p u)) (step-below b n (bal square))
+      landings-each (number b) (mateIn w) (step b n) P n (λ p u. a (mateIn w p) (mate-in-below w bal p u)) (step-below b n (bal square))
       (size b n k) (first b n k) i h (first-below b n k (omega arith))
 
 word-size : (s : List ℕ) → wordIn s .size ≡ bitsA (sizeIn s)

@@ -6,13 +6,10 @@
 use mathlib.Core.List.{List}
 use Prim.Native.Nat.{ℕ}
 use lib.Ieee.{Float}
-use lib.ListN.{drop}
-use Rattle.count.proofs.Decides.{decides-true}
 use Rattle.answers.specs.Checks.{Check, InOrder, Decided}
 use Rattle.answers.proofs.Order.{decided-append, in-order}
 use Rattle.answers.specs.Answer.{Kind}
 use Rattle.format.specs.Bytes.{sizeIn, wordIn}
-use Rattle.format.specs.Open.{openChecks}
 use Rattle.format.specs.Calls.{cellsIn, cellChecks, landingsIn}
 use Rattle.format.proofs.Orders.{cell-decided}
 use Rattle.tariff.specs.Tariff.{factorAt, sumAcross, tariffChecks}

@@ -19,11 +19,10 @@ use lib.ListN.{length, getD}
 use Rattle.count.specs.Below.{pick}
 use Rattle.count.proofs.Logic.{both-left, both-right, bool-same}
 use Rattle.answers.proofs.Steps.{checked-same}
-use Rattle.answers.specs.Answer.{Answer, answer, refused, Kind}
+use Rattle.answers.specs.Answer.{answer, refused, Kind}
 use Rattle.format.specs.Bytes.{sizeIn, wordIn}
 use Rattle.format.specs.Open.{openChecks, openRefusal}
 use Rattle.format.specs.Calls.{cellsIn, isNumber, landingsIn}
-use Rattle.format.proofs.Passes.{opened}
 use Rattle.tariff.specs.declared.factor.Factor.{Factor}
 use Rattle.tariff.specs.declared.factor.Running.{Running}
 use Rattle.tariff.specs.Tariff.{factorAt, allowed, TariffFits, tariffFits, begun, added, summed, sumAcross, hasFactor, worth, rated}

@@ -5,21 +5,19 @@
 -- Factored s k kinds values == the whole
 -- Assumes nothing.
 use mathlib.Core.Path.{_≡_}
-use mathlib.Core.Logic.{_≢_, _⊎_}
 use mathlib.Core.Bool.{Bool, true}
-use mathlib.Core.List.{List, [], _∷_, _++_}
+use mathlib.Core.List.{List, []}
 use Prim.Native.Nat.{ℕ, _+_, _*_, _<_}
 use lib.Dec.{eqb}
 use lib.Ieee.{Float, binary64, nan, ofBits, le}
 use lib.ListN.{length, getD}
 use Rattle.count.specs.Below.{pick}
-use Rattle.answers.specs.Checks.{Check, check, InOrder}
-use Rattle.answers.specs.Answer.{answer, Kind}
-use Rattle.format.specs.Bytes.{sizeIn, wordIn}
-use Rattle.format.specs.Open.{openChecks}
-use Rattle.format.specs.Calls.{cellsIn, isNumber, landingsIn}
+use Rattle.answers.specs.Checks.{InOrder}
+use Rattle.answers.specs.Answer.{answer}
+use Rattle.format.specs.Bytes.{wordIn}
+use Rattle.format.specs.Calls.{landingsIn}
 use Rattle.tariff.specs.declared.factor.Factor.{Factor}
-use Rattle.tariff.specs.Tariff.{factorAt, TariffFits, tariffFits, mean, sumAcross, hasFactor, worth}
+use Rattle.tariff.specs.Tariff.{factorAt, mean, sumAcross}
 use Rattle.tariff.specs.Maps.{factorChecks, factorIn, factorOf}
 
 abbrev pub uses : ℕ → ℕ → Bool

@@ -10,7 +10,6 @@
 use mathlib.Core.Bool.{Bool, true, false}
 use mathlib.Core.List.{List, [], _∷_, _++_}
 use Prim.Native.Nat.{ℕ, zero, suc, _*_}
-use Rattle.count.specs.Below.{pick}
 use Rattle.answers.specs.Answer.{Answer, answer, refusedWith, refused}
 use Rattle.answers.specs.Checks.{after}
 use Rattle.words.specs.declared.family.Family.{Family}

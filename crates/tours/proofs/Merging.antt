@@ -11,7 +11,7 @@
 -- marks-merge    == if no more are marked, each of them merged
 -- merges-label, merges-join == the borders of S that merged leave the same labels, and so join what S joins
 -- Assumes nothing.
-use mathlib.Core.Path.{_≡_, refl, sym, ap, _∙_}
+use mathlib.Core.Path.{_≡_, refl, sym, _∙_}
 use mathlib.Core.Logic.{_≢_, inl, inr}
 use mathlib.Core.Bool.{Bool, true, false, not, _&&_}
 use Prim.Native.Nat.{ℕ, zero, suc, _+_, _-_, _*_, _≤_, _<_}
@@ -20,14 +20,14 @@ use native.Mathlib.Omega.{arith}
 use lib.Dec.{eqb}
 use borrow.Author.Tests.{eqb-true, eq-eqb, ne-eqb}
 use Rattle.count.specs.Below.{count, any}
-use Rattle.count.proofs.Logic.{same-or-not, lt-or-ge, true-or-false, true-not-false, pick-yes, pick-no, both, both-left, both-right, bool-same}
+use Rattle.count.proofs.Logic.{same-or-not, lt-or-ge, true-or-false, true-not-false, both, both-left, both-right, bool-same}
 use Rattle.count.proofs.Below.{any-has, any-from, count-zero, count-yes, count-no, count-before, count-same, count-implies, count-split, count-none, count-one-less}
 use Rattle.answers.specs.Answer.{Kind}
 use Rattle.orbits.specs.Cycles.{Permutes, low, leads, cycles}
 use Rattle.orbits.proofs.Low.{low-below, leads-is, leads-low}
-use Rattle.drawing.specs.Drawing.{Drawing, borders, ends, border, other, turn, isMarked, cells}
+use Rattle.drawing.specs.Drawing.{Drawing, borders, ends, turn, isMarked, cells}
 use Rattle.drawing.specs.Checks.{InRange, Distinct, Joins, Joined, markCount}
-use Rattle.drawing.proofs.Ends.{turn-permutes, other-border, other-below}
+use Rattle.drawing.proofs.Ends.{turn-permutes}
 use Rattle.drawing.proofs.Labels.{label, label-start, label-out, label-at, label-off, label-same, linked-label, label-linked}
 use Rattle.drawing.proofs.Cells.{cells-none, points-are}
 

@@ -21,8 +21,8 @@ use Rattle.count.proofs.Logic.{lt-or-ge, pick-yes, pick-no}
 use Rattle.count.proofs.Below.{count-zero, count-yes, count-no, count-le}
 use Rattle.words.specs.Brackets.{Balanced}
 use Rattle.words.specs.declared.family.Family.{Family}
-use Rattle.words.specs.Word.{Word, seen, crossing}
-use Rattle.words.proofs.Crossing.{crossing-below, crossing-closing, crossing-moves, crossing-later, crossing-earlier}
+use Rattle.words.specs.Word.{Word, seen, mateIn}
+use Rattle.words.proofs.Mates.{mate-in-below, mate-in-closing, mate-in-moves, mate-in-later, mate-in-earlier}
 use Rattle.format.specs.Bytes.{sizeIn, bitsA, wordIn}
 use Rattle.format.specs.Open.{openRefusal}
 use Rattle.format.specs.Pack.{opensBefore, endIn}
@@ -58,9 +58,9 @@ module _ (w : Word) where
 
 -- the end at a closing is beside its partner's
 beside-closes : (w : Word) (bal : (K : Family) → Balanced (seen K w) (w .size)) (p : ℕ) → p < w .size → w .letter p .closing ≡ true
-    → endIn w p ≡ endIn w (crossing w p) + 1
+    → endIn w p ≡ endIn w (mateIn w p) + 1
 beside-closes w bal p l t =
-    end-in-closes w p t ∙ ap (λ x. x + 1) (sym (end-in-opens w (crossing w p) (crossing-closing w bal p l ∙ ap not t)))
+    end-in-closes w p t ∙ ap (λ x. x + 1) (sym (end-in-opens w (mateIn w p) (mate-in-closing w bal p l ∙ ap not t)))
 
 pub end-first : (p q even x : ℕ) → p < q → even ≡ pick (ltb p q) even x
 end-first p q even x c = sym (pick-yes (ltb p q) even x (lt-ltb p q c))
@@ -104,28 +104,28 @@ module _ (s old : List ℕ) (n : ℕ) where
       unfolding wordIn
       inside = omega (arith, W .size)
 
-      mate-is : q ≡ crossing (wordIn s) p
+      mate-is : q ≡ mateIn (wordIn s) p
       mate-is = e ∙ M .at p (omega (arith, W .size)) (omega (arith, W .few))
 
       pub mate-room : q < length l
       unfolding wordIn
       mate-room =
-          omega (arith, mate-is, crossing-below (wordIn s) bal p inside, W .size, W .filling .room, W .filling .same-length)
+          omega (arith, mate-is, mate-in-below (wordIn s) bal p inside, W .size, W .filling .room, W .filling .same-length)
 
       module _ (x h′ : ℕ) (g : x ≡ getD l q 0) (r : h′ ≡ pick (ltb p q) even (x + 1)) where
         later : p < q → (wordIn s .letter p .closing ≡ false) × (h′ ≡ endIn (wordIn s) p)
         later c =
             let w = wordIn s in
-            let t : w .letter p .closing ≡ false = crossing-later w bal p inside (omega (arith, mate-is)) in
+            let t : w .letter p .closing ≡ false = mate-in-later w bal p inside (omega (arith, mate-is)) in
             (t, r ∙ pick-yes (ltb p q) even (x + 1) (lt-ltb p q c) ∙ W .counted ∙ sym (end-in-opens w p t))
 
         earlier : q ≤ p → (wordIn s .letter p .closing ≡ true) × (h′ ≡ endIn (wordIn s) p)
         earlier c =
             let w = wordIn s in
-            let m : q ≢ p = λ z. crossing-moves w bal p inside (sym mate-is ∙ z) in
+            let m : q ≢ p = λ z. mate-in-moves w bal p inside (sym mate-is ∙ z) in
             let b : q < p = omega arith in
-            let t : w .letter p .closing ≡ true = crossing-earlier w bal p inside (omega (arith, mate-is)) in
-            let e : x ≡ endIn w (crossing w p) = g ∙ W .filling .done q b ∙ ap (endIn w) mate-is in
+            let t : w .letter p .closing ≡ true = mate-in-earlier w bal p inside (omega (arith, mate-is)) in
+            let e : x ≡ endIn w (mateIn w p) = g ∙ W .filling .done q b ∙ ap (endIn w) mate-is in
             (t, r ∙ pick-no (ltb p q) even (x + 1) (le-ltb p q c) ∙ ap (λ z. z + 1) e ∙ sym (beside-closes w bal p inside t))
 
         end-is : h′ ≡ endIn (wordIn s) p

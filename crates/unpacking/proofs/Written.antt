@@ -18,11 +18,11 @@ use Rattle.count.specs.Below.{pick, table}
 use Rattle.count.proofs.Logic.{same-or-not, pick-yes, pick-no}
 use Rattle.count.proofs.Lists.{table-getD}
 use Rattle.answers.specs.Lent.{laid}
-use Rattle.words.specs.Brackets.{Balanced, mate, next, step}
+use Rattle.words.specs.Brackets.{Balanced, next, step}
 use Rattle.words.specs.declared.family.Family.{Family}
 use Rattle.words.specs.declared.family.Family.the-variants.{Round as round, Square as square}
-use Rattle.words.specs.Word.{sameFamily, seen, crossing}
-use Rattle.words.proofs.Crossing.{mate-own, mate-else, crossing-below}
+use Rattle.words.specs.Word.{sameFamily, seen, mateIn}
+use Rattle.words.proofs.Mates.{mate-own, mate-else, mate-in-below}
 use Rattle.bits.specs.Strings.{bit}
 use Rattle.bits.proofs.Laws.{bit-below-2}
 use Rattle.drawing.specs.Drawing.{border, isMarked}
@@ -84,16 +84,16 @@ module _ (s : List ℕ) (p : ℕ) where
   unfolding wordIn
   mark-is = bit-back (bit (partA s) p) (bit-below-2 (partA s) p)
 
-  step-is : step (seen round (wordIn s)) (bitsA (sizeIn s)) p ≡ next (bitsA (sizeIn s)) (pick (eqb (bit (partA s) p) 1) (crossing (wordIn s) p) p)
+  step-is : step (seen round (wordIn s)) (bitsA (sizeIn s)) p ≡ next (bitsA (sizeIn s)) (pick (eqb (bit (partA s) p) 1) (mateIn (wordIn s) p) p)
   unfolding step wordIn
   step-is =
       let w = wordIn s in
       let x : ℕ = bit (partA s) p in
       ap (next (bitsA (sizeIn s)))
       (⊎-elim
-      (λ e. mate-own w round p (sym (family-round s p (partA s) x refl refl e)) ∙ sym (pick-yes (eqb x 1) (crossing w p) p (eq-eqb x 1 e)))
+      (λ e. mate-own w round p (sym (family-round s p (partA s) x refl refl e)) ∙ sym (pick-yes (eqb x 1) (mateIn w p) p (eq-eqb x 1 e)))
       (λ m. mate-else w round p (ap (sameFamily round) (sym (family-square s p (partA s) x refl refl m)))
-      ∙ sym (pick-no (eqb x 1) (crossing w p) p (ne-eqb x 1 m)))
+      ∙ sym (pick-no (eqb x 1) (mateIn w p) p (ne-eqb x 1 m)))
       (same-or-not x 1))
 
 module _ (s t k : List ℕ) (n : ℕ) where
@@ -146,12 +146,12 @@ module _ (s t k : List ℕ) (n : ℕ) where
       inside = omega (arith, W .size)
 
       module _ (mates : List ℕ) (q : ℕ) (M : Mates s mates) (e : 4096 ≤ length mates) (f : q ≡ getD mates p 0) where
-        mate-is : q ≡ crossing (wordIn s) p
+        mate-is : q ≡ mateIn (wordIn s) p
         mate-is = f ∙ M .at p (omega (arith, W .size)) (omega (arith, W .few))
 
         mate-below : q < n
         unfolding wordIn
-        mate-below = omega (arith, mate-is, crossing-below (wordIn s) bal p inside, W .size)
+        mate-below = omega (arith, mate-is, mate-in-below (wordIn s) bal p inside, W .size)
 
         pub mate-few : q < 4096
         mate-few = omega (arith, mate-below, W .few)
@@ -197,7 +197,7 @@ module _ (s t k : List ℕ) (n : ℕ) where
           let m : mark ≡ bit (partA s) p = hm ∙ ap (λ z. bit z p) ha in
           let x : h ≡ endIn w p = end-is ends h E hh in
           let y : h < N = end-below ends h E hh in
-          let z : c ≡ crossing w p = mate-is mates c M e hc in
+          let z : c ≡ mateIn w p = mate-is mates c M e hc in
           let v : q ≡ step (seen round w) N p
           = hq ∙ ap₂ next (W .size) hd ∙ ap₂ (λ z u. next N (pick (eqb z 1) u p)) m z ∙ sym (step-is s p) in
           let u : g ≡ endIn w q = hg ∙ E .at q (omega (arith, W .size)) in

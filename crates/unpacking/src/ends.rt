@@ -1,6 +1,6 @@
 // The end at each position of the word, in one pass: borders are numbered as their first places come.
-use lending::wide;
 use layout::bits_a;
+use lending::wide;
 ghost use mathlib.Core.Path.{_≡_};
 ghost use Prim.Native.Nat.{_+_, _<_, _≤_};
 ghost use lib.Dec.{ltb};

@@ -1,10 +1,10 @@
 // Unpacking into lent lists: the map is read once into lists of its mates and its ends, and the drawing is written from them.
-use answers::Unpacked;
 use crate::ends::write_ends;
-use lending::wide;
+use answers::Unpacked;
 use layout::bits_a;
 use layout::borders;
 use layout::part_a;
+use lending::wide;
 use surveying::survey;
 use walking::after;
 ghost use mathlib.Core.Path.{_≡_};

@@ -23,7 +23,7 @@ use Rattle.count.proofs.Logic.{same-or-not, pick-yes, pick-no}
 use Rattle.words.specs.Brackets.{inner, mate, next, step, number, first}
 use Rattle.words.specs.declared.family.Family.{Family}
 use Rattle.words.specs.declared.family.Family.the-variants.{Round as round, Square as square}
-use Rattle.words.specs.Word.{seen, crossing}
+use Rattle.words.specs.Word.{seen, mateIn}
 use Rattle.words.proofs.Stack.{inner-le, inner-inner}
 use Rattle.words.proofs.Mate.{mate-below, mate-neither}
 use Rattle.words.proofs.Step.{next-plain, next-last}
@@ -106,8 +106,8 @@ module _ (s : List ℕ) (K : Family) (p : ℕ) (P : Position s p) where
       ap (λ x. x + 1) f ∙ sym (number-ranks s K (P .opens) p (omega (arith, P .below)))
 
 pub cross-is : (s : List ℕ) (K : Family) (p r : ℕ) → K ≡ wordIn s .letter p .family → r ≡ mate (seen K (wordIn s)) (bitsA (sizeIn s)) p
-    → r ≡ crossing (wordIn s) p
-unfolding crossing wordIn
+    → r ≡ mateIn (wordIn s) p
+unfolding mateIn wordIn
 cross-is s K p r e h = h ∙ ap (λ X. mate (seen X (wordIn s)) (bitsA (sizeIn s)) p) e
 
 -- the family of a letter whose bit is the family's
@@ -116,8 +116,8 @@ own-family s round p x h e = family-round s p (partA s) x refl h e
 own-family s square p x h e = family-square s p (partA s) x refl h (λ y. omega arith)
 
 pub mate-crossed : (s : List ℕ) (K : Family) (p : ℕ) (a : List ℕ) (v x r : ℕ) → a ≡ partA s → x ≡ bit a p → v ≡ familyBit K → x ≡ v
-    → r ≡ crossing (wordIn s) p → r ≡ mate (seen K (wordIn s)) (bitsA (sizeIn s)) p
-unfolding crossing wordIn
+    → r ≡ mateIn (wordIn s) p → r ≡ mate (seen K (wordIn s)) (bitsA (sizeIn s)) p
+unfolding mateIn wordIn
 mate-crossed s K p a v x r ha hx hv e h =
     let f : K ≡ wordIn s .letter p .family = own-family s K p x (hx ∙ ap (λ y. bit y p) ha) (e ∙ hv) in
     h ∙ sym (ap (λ X. mate (seen X (wordIn s)) (bitsA (sizeIn s)) p) f)
@@ -153,7 +153,7 @@ module _ (s : List ℕ) (p q : ℕ) (P : Position s p) (Q : Position s q) (v x :
   pub sum-fits : (1 - (x + v) % 2) * q + (x + v) % 2 * p < 18446744073709551616
   sum-fits = omega (arith, most .0, most .1, P .few, Q .few)
 
-  module _ (K : Family) (C : q ≡ crossing (wordIn s) p) (a : List ℕ) (hv : v ≡ familyBit K) (ha : a ≡ partA s) (hx : x ≡ bit a p) where
+  module _ (K : Family) (C : q ≡ mateIn (wordIn s) p) (a : List ℕ) (hv : v ≡ familyBit K) (ha : a ≡ partA s) (hx : x ≡ bit a p) where
     sum-is : ((1 - o) * q + o * p ≡ mate (seen K (wordIn s)) (bitsA (sizeIn s)) p) × Position s ((1 - o) * q + o * p)
     sum-is =
         elim (same-or-not x v) [

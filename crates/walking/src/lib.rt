@@ -1,7 +1,7 @@
 // The bracket word that a map's bytes hold, walked through its three strings.
 //
 //     family_at          the family of the bracket at a position
-//     crossing_at        the partner of a position, in its own family
+//     own_mate_at        the partner of a position, in its own family
 //     mate_at            its partner in a family
 //     after              the position after one, and 0 after the last
 //     step_at            the next position about the same point, the same area
@@ -27,11 +27,11 @@ pub use turning::turn_back_past;
 pub use turning::turn_past;
 pub use word::after;
 pub use word::area_of;
-pub use word::crossing_at;
 pub use word::family_at;
 pub use word::first_at;
 pub use word::mate_at;
 pub use word::number_at;
+pub use word::own_mate_at;
 pub use word::point_of;
 pub use word::step_at;
 pub use word::step_past;

@@ -1,18 +1,18 @@
 // Positions of the word: family, partner, step, point and area, and the first one of a point or an area.
+use answers::Area;
+use answers::Point;
 use layout::bits_a;
 use layout::bits_b;
 use layout::family_bit;
 use layout::part_a;
 use layout::part_b;
-use answers::Area;
 use opening::Cell;
-use answers::Point;
 use words::Family;
 ghost use mathlib.Core.Path.{_≡_};
 ghost use Prim.Native.Nat.{_<_, _≤_};
 ghost use Rattle.words.specs.Brackets.{mate, next, step, number, first};
 ghost use Rattle.words.specs.declared.family.Family.the-variants.{Round as round, Square as square};
-ghost use Rattle.words.specs.Word.{seen, crossing};
+ghost use Rattle.words.specs.Word.{seen, mateIn};
 ghost use Rattle.drawing.specs.Drawing.{mostEnds};
 ghost use Rattle.format.specs.Bytes.{sizeIn, bitsA, wordIn};
 ghost use Rattle.format.specs.Calls.{familyOfKind};
@@ -31,9 +31,9 @@ pub fn family_at(map: &[u8], p: usize) -> Family
 }
 
 // The partner of position p, in its own family.
-pub fn crossing_at(map: &[u8], p: usize) -> usize
+pub fn own_mate_at(map: &[u8], p: usize) -> usize
     requires { ⌜ Position (now map) p ⌝ }
-    ensures { λ r. ⌜ (r ≡ crossing (wordIn (now (map .entry))) p) × Position (now (map .entry)) r ⌝ }
+    ensures { λ r. ⌜ (r ≡ mateIn (wordIn (now (map .entry))) p) × Position (now (map .entry)) r ⌝ }
 {
     mate_at(map, family_at(map, p), p)
 }
@@ -66,7 +66,7 @@ pub fn step_at(map: &[u8], family: Family, p: usize) -> usize
 
 // The same from q, the partner of p in its own family, wherever that was found.
 pub fn step_past(map: &[u8], family: Family, p: usize, q: usize) -> usize
-    requires { ⌜ Position (now map) p × Position (now map) q × (q ≡ crossing (wordIn (now map)) p) ⌝ }
+    requires { ⌜ Position (now map) p × Position (now map) q × (q ≡ mateIn (wordIn (now map)) p) ⌝ }
     ensures { λ r. ⌜ r ≡ step (seen family (wordIn (now (map .entry)))) (bitsA (sizeIn (now (map .entry)))) p ⌝ }
     ensures { λ r. ⌜ Position (now (map .entry)) r ⌝ }
 {
@@ -76,7 +76,7 @@ pub fn step_past(map: &[u8], family: Family, p: usize, q: usize) -> usize
 // The partner of p in a family, from q, its partner in its own: `other` is 1 where p is of the other family. A sum and no jump:
 // which of the two it is can't be foreseen.
 fn mate_of(map: &[u8], family: Family, p: usize, q: usize) -> usize
-    requires { ⌜ Position (now map) p × Position (now map) q × (q ≡ crossing (wordIn (now map)) p) ⌝ }
+    requires { ⌜ Position (now map) p × Position (now map) q × (q ≡ mateIn (wordIn (now map)) p) ⌝ }
     ensures { λ r. ⌜ r ≡ mate (seen family (wordIn (now (map .entry)))) (bitsA (sizeIn (now (map .entry)))) p ⌝ }
     ensures { λ r. ⌜ Position (now (map .entry)) r ⌝ }
 {

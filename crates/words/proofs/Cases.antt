@@ -2,12 +2,11 @@
 use mathlib.Core.Path.{_≡_, refl}
 use mathlib.Core.Bool.{Bool, true, false}
 use mathlib.Core.List.{List, [], _∷_}
-use Prim.Native.Nat.{ℕ}
 use lib.ListN.{length, getD}
 use Rattle.words.specs.Brackets.{step, back, number, isFirst, isLast, first, size}
 use Rattle.words.specs.declared.family.Family.{Family}
 use Rattle.words.specs.declared.family.Family.the-variants.{Round as round, Square as square}
-use Rattle.words.specs.Word.{Letter, Word, seen, crossing}
+use Rattle.words.specs.Word.{Letter, Word, seen, mateIn}
 
 abbrev letter : Family → Bool → Letter
 letter K c = record { family = K; closing = c }
@@ -24,7 +23,7 @@ abbrev stub : Word
 stub = word (letter round false ∷ letter round true ∷ [])
 
 pub record Cases : Type 0 where
-  pub crosses : crossing triangle 2 ≡ 5
+  pub crosses : mateIn triangle 2 ≡ 5
   -- about a point, at a ( the next position is not the next border
   pub turns : step (seen round triangle) 6 0 ≡ 5
   pub turns-back : back (seen round triangle) 6 5 ≡ 0
@@ -40,7 +39,7 @@ pub record Cases : Type 0 where
   pub first-position : isFirst (seen round stub) 0 ≡ true
 
 pub cases : Cases
-unfolding crossing step back number first size isLast isFirst seen
+unfolding mateIn step back number first size isLast isFirst seen
 cases =
     record {
       crosses = refl;

@@ -13,5 +13,5 @@ pub mod Halves
 pub mod Same
 pub mod Thin
 pub mod Openings
-pub mod Crossing
+pub mod Mates
 pub mod Order

@@ -25,7 +25,7 @@ use Rattle.count.proofs.Below.{count-none, count-next, count-before, nth-of-cou
 use Rattle.count.proofs.Lists.{table-length, table-getD, gather-length, gather-getD}
 use Rattle.orbits.specs.Cycles.{iter}
 use Rattle.orbits.proofs.Iter.{iter-next}
-use Rattle.words.specs.Brackets.{Bracket, opens, closes, inner, Balanced, mate, next, step, number, first, size}
+use Rattle.words.specs.Brackets.{Bracket, opens, inner, Balanced, mate, next, step, number, first, size}
 use Rattle.words.proofs.Letters.{by-bracket}
 use Rattle.words.proofs.Stack.{inner-zero, inner-le}
 use Rattle.words.proofs.Held.{Held, at-top, under, held-below}

@@ -4,7 +4,7 @@
 -- Letter        == its family, and whether it closes
 -- Word          == how many letters, and the letter at each position (positions from 0)
 -- seen K w      == what each letter is to family K
--- crossing w p  == the partner of p in its own family
+-- mateIn w p  == the partner of p in its own family
 -- Assumes nothing.
 use mathlib.Core.Bool.{Bool, true, false}
 use Prim.Native.Nat.{ℕ}
@@ -33,6 +33,6 @@ view K l = pick (sameFamily K (l .family)) (pick (l .closing) closes opens) neit
 unfoldable pub seen : Family → Word → ℕ → Bracket
 seen K w p = view K (w .letter p)
 
-unfoldable pub crossing : Word → ℕ → ℕ
+unfoldable pub mateIn : Word → ℕ → ℕ
 unfolding seen mate
-crossing w p = mate (seen (w .letter p .family) w) (w .size) p
+mateIn w p = mate (seen (w .letter p .family) w) (w .size) p

@@ -1,7 +1,7 @@
 -- The examples of document 01's table, 1 to 17, of 20, of the two forms of cards, and what unpacking gives, by computation.
 -- Assumes nothing.
 use mathlib.Core.Path.{_≡_, refl}
-use mathlib.Core.List.{List, [], _∷_}
+use mathlib.Core.List.{[], _∷_}
 use Rattle.answers.specs.Answer.{answer, refusedWith, refused, Kind}
 use Rattle.format.specs.Bytes.{longest}
 use Rattle.format.specs.Before.{refusalBefore}

@@ -1,7 +1,5 @@
 -- Document 01's worked examples (a) to (l), one theorem that goes through the definitions by computation. Assumes nothing.
 use mathlib.Core.Path.{_≡_, refl}
-use mathlib.Core.List.{List}
-use Prim.Native.Nat.{ℕ}
 use Rattle.answers.specs.Answer.{answer, refused, Kind}
 use Rattle.drawing.specs.Drawing.{cells}
 use Rattle.format.specs.Calls.{crossOf, turnOf, pointOf, areaOf, sizeOf}

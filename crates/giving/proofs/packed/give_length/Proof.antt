@@ -1,7 +1,7 @@
 -- `giving::packed::give_length` meets its contract. Assumes nothing.
 use mathlib.Core.Path.{sym, ap, _∙_}
 use borrow.Author.Needs.{needs}
-use Rattle.answers.specs.Lent.{leaves, itself}
+use Rattle.answers.specs.Lent.{leaves}
 use Rattle.giving.specs.Desk.{returned}
 use Rattle.giving.proofs.Values.{pair-values, value-all}
 use Rattle.giving.proofs.packed.give_length.Statement.{statement}

@@ -28,8 +28,8 @@ first-at-requires c κs = search needs
 loop-holds : tie.Need-loop-holds Inv-loop μ-loop
 loop-holds c = search walking-start
 
-crossing-at-requires : tie.Need-crossing-at-requires Inv-loop μ-loop
-crossing-at-requires c κs = search needs
+own-mate-at-requires : tie.Need-own-mate-at-requires Inv-loop μ-loop
+own-mate-at-requires c κs = search needs
 
 number-at-requires : tie.Need-number-at-requires Inv-loop μ-loop
 number-at-requires c κs = search needs
@@ -78,7 +78,7 @@ few-across-spec =
     add-most
     first-at-requires
     loop-holds
-    crossing-at-requires
+    own-mate-at-requires
     number-at-requires
     cast-list
     mul-list

@@ -5,8 +5,8 @@ use borrow.Author.Needs.{needs}
 use Rattle.listing.proofs.lines.line_at.Statement.{statement}
 use Rattle.listing.proofs.lines.line_at.Tie as tie
 
-crossing-in-requires : tie.Need-crossing-in-requires
-crossing-in-requires c κs = search needs
+own-mate-in-requires : tie.Need-own-mate-in-requires
+own-mate-in-requires c κs = search needs
 
 add-mate : tie.Need-add-mate
 add-mate c = search needs
@@ -25,10 +25,10 @@ returns c =
     let point = c .before in
     let cross = point .before in
     let start = cross .before .before .before .before .before in
-    line-says _ _ (cross .crossing-in .result) _ (start .pre .0 .0) (start .pre .0 .1) refl (cross .crossing-in .ensures .0) (cross .crossing-in .ensures .1) refl
+    line-says _ _ (cross .own-mate-in .result) _ (start .pre .0 .0) (start .pre .0 .1) refl (cross .own-mate-in .ensures .0) (cross .own-mate-in .ensures .1) refl
     (point .point-in .ensures) (c .area-in .ensures)
 
 pub line-at-spec : {M : Type 1} → statement M
 line-at-spec =
     tie.close
-    (tie.spec crossing-in-requires add-mate point-in-requires area-in-requires add-t10 returns)
+    (tie.spec own-mate-in-requires add-mate point-in-requires area-in-requires add-t10 returns)

@@ -14,11 +14,11 @@ returns : tie.Need-returns
 unfolding crossOf
 returns c = search move-declines
 
-sub-crossing-at : tie.Need-sub-crossing-at
-sub-crossing-at c = search place-least
+sub-own-mate-at : tie.Need-sub-own-mate-at
+sub-own-mate-at c = search place-least
 
-crossing-at-requires : tie.Need-crossing-at-requires
-crossing-at-requires c κs = search place-position
+own-mate-at-requires : tie.Need-own-mate-at-requires
+own-mate-at-requires c κs = search place-position
 
 add-other : tie.Need-add-other
 add-other c = search needs
@@ -33,7 +33,7 @@ cross-spec =
     (tie.spec
     place-refusal-requires
     returns
-    sub-crossing-at
-    crossing-at-requires
+    sub-own-mate-at
+    own-mate-at-requires
     add-other
     returns-2)

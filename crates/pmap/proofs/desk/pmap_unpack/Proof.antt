@@ -1,7 +1,7 @@
 -- `pmap::desk::pmap_unpack` meets its contract. Assumes nothing.
 use borrow.Author.Needs.{needs}
 use Rattle.pmap.proofs.Drawings.{unpack-small, unpack-status}
-use Rattle.pmap.proofs.Given.{cell-same}
+use Rattle.pmap.proofs.Given.{slot-same}
 use Rattle.pmap.proofs.desk.pmap_unpack.Statement.{statement}
 use Rattle.pmap.proofs.desk.pmap_unpack.Tie as tie
 
@@ -22,7 +22,7 @@ returns c =
     let u = c .before .before .before .before .before .before .unpack .ensures in
     let g = c .give-borders .ensures in (
       unpack-status _ _ _ _ _ (g .0) (u .0),
-      (u .1 .0, (u .1 .1, cell-same _ _ _ _ (g .1) (u .0))),
+      (u .1 .0, (u .1 .1, slot-same _ _ _ _ (g .1) (u .0))),
     )
 
 pub pmap-unpack-spec : {M : Type 1} → statement M

@@ -1,6 +1,6 @@
 -- `pmap::session::pmap_session` meets its contract. Assumes nothing.
 use borrow.Author.Needs.{needs}
-use Rattle.pmap.proofs.Given.{cell-same, left-status}
+use Rattle.pmap.proofs.Given.{slot-same, left-status}
 use Rattle.pmap.proofs.session.pmap_session.Statement.{statement}
 use Rattle.pmap.proofs.session.pmap_session.Tie as tie
 
@@ -17,7 +17,7 @@ same-length-2 : tie.Need-same-length-2
 same-length-2 c = search needs
 
 returns : tie.Need-returns
-returns c = (search (left-status, needs), (search needs, (search needs, search (cell-same, needs))))
+returns c = (search (left-status, needs), (search needs, (search needs, search (slot-same, needs))))
 
 pub pmap-session-spec : {M : Type 1} → statement M
 pmap-session-spec =

@@ -19,8 +19,8 @@ loop-holds c = search joining-start
 add-found : tie.Need-add-found Inv-loop μ-loop
 add-found c = search needs
 
-crossing-in-requires : tie.Need-crossing-in-requires Inv-loop μ-loop
-crossing-in-requires c κs = search needs
+own-mate-in-requires : tie.Need-own-mate-in-requires Inv-loop μ-loop
+own-mate-in-requires c κs = search needs
 
 point-in-requires : tie.Need-point-in-requires Inv-loop μ-loop
 point-in-requires c κs = search needs
@@ -58,7 +58,7 @@ join-from-spec =
     bits-a-requires
     loop-holds
     add-found
-    crossing-in-requires
+    own-mate-in-requires
     point-in-requires
     add-found-2
     step-past-requires

@@ -4,8 +4,8 @@ use borrow.Author.Needs.{needs}
 use Rattle.sessions.proofs.calls.value_at.Statement.{statement}
 use Rattle.sessions.proofs.calls.value_at.Tie as tie
 
-crossing-in-requires : tie.Need-crossing-in-requires
-crossing-in-requires c κs = search needs
+own-mate-in-requires : tie.Need-own-mate-in-requires
+own-mate-in-requires c κs = search needs
 
 add-result : tie.Need-add-result
 add-result c = search needs
@@ -50,7 +50,7 @@ pub value-at-spec : {M : Type 1} → statement M
 value-at-spec =
     tie.close
     (tie.spec
-    crossing-in-requires
+    own-mate-in-requires
     add-result
     turn-in-requires
     turn-back-in-requires

@@ -1,10 +1,10 @@
--- `giving::cells::give_borders` meets its contract. Assumes nothing.
+-- `giving::slots::give_borders` meets its contract. Assumes nothing.
 use borrow.Author.Needs.{needs}
 use Rattle.answers.specs.Answer.{numberOf}
-use Rattle.answers.specs.Lent.{leaves, itself}
+use Rattle.answers.specs.Lent.{leaves}
 use Rattle.giving.proofs.Values.{value-all}
-use Rattle.giving.proofs.cells.give_borders.Statement.{statement}
-use Rattle.giving.proofs.cells.give_borders.Tie as tie
+use Rattle.giving.proofs.slots.give_borders.Statement.{statement}
+use Rattle.giving.proofs.slots.give_borders.Tie as tie
 
 enum-known-a : tie.Need-enum-known-a
 enum-known-a c = search needs

@@ -1,10 +1,10 @@
-// From an answer to a status and the cells that hold it.
+// From an answer to a status and the slots that hold it.
 use answers::AreaAnswer;
 use answers::Count;
+use answers::FactorAnswer;
 use answers::Opened;
 use answers::PlaceAnswer;
 use answers::PointAnswer;
-use answers::FactorAnswer;
 use answers::Ran;
 use answers::Unpacked;
 ghost use mathlib.Core.Path.{_≡_};
@@ -85,7 +85,7 @@ pub fn give_factor(a: FactorAnswer, out: &mut f64) -> u8
     }
 }
 
-// m and n, in two cells.
+// m and n, in two slots.
 pub fn give_size(a: Opened, m: &mut u16, n: &mut u16) -> u8
     requires { ⌜ (valueOf (told (λ (z : Size). z .m) (openedMeans a)) < 65536) × (valueOf (told (λ (z : Size). z .n) (openedMeans a)) < 65536) ⌝ }
     ensures { λ r. ⌜ r ≡ numberOf (openedMeans a) ⌝ }

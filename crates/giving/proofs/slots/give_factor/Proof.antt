@@ -1,9 +1,9 @@
--- `giving::cells::give_factor` meets its contract. Assumes nothing.
+-- `giving::slots::give_factor` meets its contract. Assumes nothing.
 use borrow.Author.Needs.{needs}
 use Rattle.answers.specs.Answer.{numberOf}
-use Rattle.answers.specs.Lent.{leaves, itself}
-use Rattle.giving.proofs.cells.give_factor.Statement.{statement}
-use Rattle.giving.proofs.cells.give_factor.Tie as tie
+use Rattle.answers.specs.Lent.{leaves}
+use Rattle.giving.proofs.slots.give_factor.Statement.{statement}
+use Rattle.giving.proofs.slots.give_factor.Tie as tie
 
 enum-known-a : tie.Need-enum-known-a
 enum-known-a c = search needs

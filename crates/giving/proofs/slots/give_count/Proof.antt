@@ -1,10 +1,10 @@
--- `giving::cells::give_place` meets its contract. Assumes nothing.
+-- `giving::slots::give_count` meets its contract. Assumes nothing.
 use borrow.Author.Needs.{needs}
 use Rattle.answers.specs.Answer.{numberOf}
-use Rattle.answers.specs.Lent.{leaves, itself}
+use Rattle.answers.specs.Lent.{leaves}
 use Rattle.giving.proofs.Values.{value-all}
-use Rattle.giving.proofs.cells.give_place.Statement.{statement}
-use Rattle.giving.proofs.cells.give_place.Tie as tie
+use Rattle.giving.proofs.slots.give_count.Statement.{statement}
+use Rattle.giving.proofs.slots.give_count.Tie as tie
 
 enum-known-a : tie.Need-enum-known-a
 enum-known-a c = search needs
@@ -23,5 +23,5 @@ returns-2 : tie.Need-returns-2
 unfolding numberOf leaves
 returns-2 c = search needs
 
-pub give-place-spec : {M : Type 1} → statement M
-give-place-spec = tie.close (tie.spec enum-known-a cast-out enum-known-a-2 returns returns-2)
+pub give-count-spec : {M : Type 1} → statement M
+give-count-spec = tie.close (tie.spec enum-known-a cast-out enum-known-a-2 returns returns-2)

@@ -1,10 +1,10 @@
--- `giving::cells::give_count` meets its contract. Assumes nothing.
+-- `giving::slots::give_point` meets its contract. Assumes nothing.
 use borrow.Author.Needs.{needs}
 use Rattle.answers.specs.Answer.{numberOf}
-use Rattle.answers.specs.Lent.{leaves, itself}
+use Rattle.answers.specs.Lent.{leaves}
 use Rattle.giving.proofs.Values.{value-all}
-use Rattle.giving.proofs.cells.give_count.Statement.{statement}
-use Rattle.giving.proofs.cells.give_count.Tie as tie
+use Rattle.giving.proofs.slots.give_point.Statement.{statement}
+use Rattle.giving.proofs.slots.give_point.Tie as tie
 
 enum-known-a : tie.Need-enum-known-a
 enum-known-a c = search needs
@@ -23,5 +23,5 @@ returns-2 : tie.Need-returns-2
 unfolding numberOf leaves
 returns-2 c = search needs
 
-pub give-count-spec : {M : Type 1} → statement M
-give-count-spec = tie.close (tie.spec enum-known-a cast-out enum-known-a-2 returns returns-2)
+pub give-point-spec : {M : Type 1} → statement M
+give-point-spec = tie.close (tie.spec enum-known-a cast-out enum-known-a-2 returns returns-2)
