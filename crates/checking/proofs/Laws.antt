@@ -25,9 +25,10 @@ use Rattle.drawing.specs.Drawing.{borders, ends, turn, lent}
 use Rattle.drawing.specs.Checks.{LengthsFit, lengthsFit, EntriesFit, entriesFit, Distinct, distinct}
 use Rattle.drawing.proofs.Checks.{lengths-decides, entries-decides, distinct-decides}
 use Rattle.drawing.proofs.Ends.{entries-permute}
-use Rattle.checking.specs.Lent.{next, Ranged, Differ, Turns, Blank}
+use Rattle.lending.specs.Lists.{Blank}
+use Rattle.lending.proofs.Kept.{blank-cleared}
+use Rattle.checking.specs.Lent.{next, Ranged, Differ, Turns}
 use Rattle.checking.proofs.Decided.{passes, decides-same}
-use Rattle.checking.proofs.Working.{blank-cleared}
 
 module _ (ts ms : List ℕ) (r : Bool) (p : (s : ℕ) → r ≡ lengthsFit (lent ts ms s)) (h : not r ≡ false) where
   pub lengths-passed : (s : ℕ) → LengthsFit (lent ts ms s)

@@ -1,6 +1,5 @@
 -- The checks of a lent drawing: the laws.
 pub mod Decided
-pub mod Working
 pub mod Laws
 pub mod Across
 pub mod Scans

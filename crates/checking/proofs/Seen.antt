@@ -13,9 +13,10 @@ use lib.ListN.{length, getD, set, length-set}
 use lib.Seq.{getD-set-same, getD-set-other}
 use Rattle.count.specs.Below.{Decides}
 use Rattle.count.proofs.Logic.{same-or-not}
-use Rattle.checking.specs.Lent.{next, Ranged, Differ, Blank, Kept}
+use Rattle.lending.specs.Lists.{Blank, Kept}
+use Rattle.lending.proofs.Kept.{kept-none, kept-set}
+use Rattle.checking.specs.Lent.{next, Ranged, Differ}
 use Rattle.checking.proofs.Decided.{decides-yes, decides-no}
-use Rattle.checking.proofs.Working.{kept-none, kept-set}
 
 pub record Seen (ts old : List ℕ) (i : ℕ) (w : List ℕ) : Type 0 where
   pub within : i ≤ length ts

@@ -1,14 +1,11 @@
--- A drawing lent as slices, and the working list lent beside it.
+-- A drawing lent as slices.
 --
 -- next ts h        == entry h of the turning list
 -- Ranged ts        == every entry is below the list's length
 -- Binary ms        == every mark is 0 or 1
 -- Differ ts        == no two entries are equal
 -- Turns ts         == the turning list is a permutation of its ends
--- Blank k work     == the working list has at least k entries, and its first k are 0
--- Kept k old new   == the lists are equally long, and equal from entry k on
 -- Assumes nothing.
-use mathlib.Core.Path.{_≡_}
 use mathlib.Core.Logic.{_≢_}
 use mathlib.Core.List.{List}
 use Prim.Native.Nat.{ℕ, _<_, _≤_}
@@ -29,11 +26,3 @@ pub record Differ (ts : List ℕ) : Type 0 where
 
 abbrev pub Turns : List ℕ → Type 0
 Turns ts = Permutes (length ts) (next ts)
-
-pub record Blank (k : ℕ) (work : List ℕ) : Type 0 where
-  pub room : k ≤ length work
-  pub zero : (i : ℕ) → i < k → getD work i 0 ≡ 0
-
-pub record Kept (k : ℕ) (old new : List ℕ) : Type 0 where
-  pub same-length : length new ≡ length old
-  pub rest : (i : ℕ) → k ≤ i → getD new i 0 ≡ getD old i 0

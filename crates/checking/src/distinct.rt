@@ -4,7 +4,8 @@ ghost use mathlib.Core.Path.{_≡_};
 ghost use Prim.Native.Nat.{_*_};
 ghost use lib.ListN.{length};
 ghost use Rattle.count.specs.Below.{Decides};
-ghost use Rattle.checking.specs.Lent.{Ranged, Differ, Blank, Kept};
+ghost use Rattle.lending.specs.Lists.{Blank, Kept};
+ghost use Rattle.checking.specs.Lent.{Ranged, Differ};
 
 // 4: no two entries are equal.
 pub fn is_distinct(turning: &[u16], work: &mut [u16]) -> bool

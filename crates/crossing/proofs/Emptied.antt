@@ -11,7 +11,8 @@ use lib.ListN.{length, getD, take, drop, length-append, length-drop, List·getD-
 use lib.Seq.{getD-take, getD-drop, getD-append-add, length-take-le}
 use Rattle.lending.proofs.Clearing.{cleared-length, cleared-first}
 use Rattle.answers.specs.Lent.{cleared}
-use Rattle.touring.specs.Working.{Outside, Zeroed, Charted}
+use Rattle.lending.specs.Lists.{Outside, Zeroed}
+use Rattle.touring.specs.Working.{Charted}
 
 module _ (xs ys : List ℕ) where
   at-left : (i : ℕ) → i < length xs → getD (xs ++ ys) i 0 ≡ getD xs i 0

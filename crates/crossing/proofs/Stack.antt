@@ -23,10 +23,11 @@ use Rattle.drawing.specs.Drawing.{border}
 use Rattle.drawing.specs.Checks.{Tour, smallerFirst, crossingIn}
 use Rattle.drawing.proofs.Ends.{border-below}
 use Rattle.drawing.proofs.Crossing.{Lowest, crosses-none, crossing-in-is, crossing-in-none}
+use Rattle.lending.specs.Lists.{Outside}
+use Rattle.lending.proofs.Outside.{outside-none, outside-set}
 use Rattle.crossing.specs.declared.find.Found.{Found}
-use Rattle.touring.specs.Working.{Outside, Charted, tourIn, borderIn, met}
+use Rattle.touring.specs.Working.{Charted, tourIn, borderIn, met}
 use Rattle.crossing.specs.Finding.{foundMeans, chartTour, Stands, Above, placeIn}
-use Rattle.touring.proofs.Outside.{outside-none, outside-set}
 use Rattle.crossing.proofs.Nests.{Stacked, stacked-start, stacked-skip, stacked-push, stacked-pop, stacked-none, stacked-there, stacked-lowest}
 
 -- ---- find_crossing

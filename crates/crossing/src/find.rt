@@ -5,7 +5,8 @@ ghost use mathlib.Core.Path.{_≡_};
 ghost use Prim.Native.Nat.{_+_, _*_, _<_};
 ghost use lib.ListN.{length, getD};
 ghost use Rattle.drawing.specs.Checks.{smallerFirst, crossingIn};
-ghost use Rattle.touring.specs.Working.{Outside, Zeroed, Charted, borderIn};
+ghost use Rattle.lending.specs.Lists.{Outside, Zeroed};
+ghost use Rattle.touring.specs.Working.{Charted, borderIn};
 ghost use Rattle.crossing.specs.Finding.{foundMeans, chartTour, Stands, Above};
 
 pub enum Found {

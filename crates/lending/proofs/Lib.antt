@@ -1,2 +1,4 @@
 -- Lists that are lent: the laws of filling them.
 pub mod Clearing
+pub mod Kept
+pub mod Outside

@@ -13,8 +13,8 @@
 // proportion to the map.
 //
 // The source is document 01, "Listing", and document 02, 5/14. The definitions that the contracts cite
-// are those of the crate `text`, and `printed` in specs/Printed.antt. specs/Running.antt has the running
-// count, and what is shown of it for every map listed; proofs/Running.antt shows it (`running-rank`).
+// are those of the crate `text`, whose specs/Running has the running count, and what is shown of it for every map
+// listed (`running-rank`).
 mod line;
 mod lines;
 mod print;

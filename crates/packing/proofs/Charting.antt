@@ -31,8 +31,8 @@ use Rattle.tours.proofs.Theorems.{passes-meets, tour-once, marks-at-least}
 use Rattle.format.specs.Bytes.{mapBytes}
 use Rattle.format.specs.Pack.{wordOf, packedBytes}
 use Rattle.format.proofs.Encode.{map-bytes-same}
-use Rattle.checking.specs.Lent.{Blank, Kept}
-use Rattle.touring.specs.Working.{Outside, Zeroed, Tours, Clean, Noted, Charted, tourIn, borderIn, met}
+use Rattle.lending.specs.Lists.{Blank, Kept, Outside, Zeroed}
+use Rattle.touring.specs.Working.{Tours, Clean, Noted, Charted, tourIn, borderIn, met}
 use Rattle.crossing.specs.Finding.{chartTour}
 use Rattle.writing.specs.Writing.{wordAt, chartBytes, Legible, Sized}
 use Rattle.writing.proofs.Filling.{round-is}

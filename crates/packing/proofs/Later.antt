@@ -28,7 +28,8 @@ use Rattle.drawing.proofs.Ends.{turn-permutes}
 use Rattle.answers.specs.Checks.{checkAt}
 use Rattle.answers.proofs.Steps.{Passed, refuses-at, answers-all}
 use Rattle.format.specs.Pack.{packedBytes}
-use Rattle.checking.specs.Lent.{Ranged, Differ, Turns, Kept}
+use Rattle.lending.specs.Lists.{Kept}
+use Rattle.checking.specs.Lent.{Ranged, Differ, Turns}
 use Rattle.checking.proofs.Decided.{passes, fails}
 use Rattle.checking.proofs.Laws.{ranged-from, turns-from, distinct-is}
 use Rattle.answers.specs.declared.cases.Packed.the-variants as the-case

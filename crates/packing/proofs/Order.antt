@@ -23,10 +23,10 @@ use Rattle.drawing.proofs.Checks.{range-decides}
 use Rattle.format.specs.Bytes.{longest}
 use Rattle.format.specs.Pack.{packedBytes, roomFits, packChecks, packRefusal, packOf, workLeft}
 use Rattle.format.specs.Packs.{Packs}
-use Rattle.checking.specs.Lent.{Kept}
 use Rattle.answers.specs.declared.cases.Packed.the-variants as the-case
+use Rattle.lending.specs.Lists.{Kept}
+use Rattle.lending.proofs.Kept.{cleared-again}
 use Rattle.checking.proofs.Decided.{passes, fails}
-use Rattle.checking.proofs.Working.{cleared-again}
 use Rattle.packing.specs.Later.{laterChecks, laterOf, PacksLater}
 
 -- an early return, by check i: one of 1 to 3

@@ -11,7 +11,7 @@ ghost use Rattle.drawing.specs.Drawing.{cells, lent};
 ghost use Rattle.drawing.specs.Checks.{LengthsFit, InRange, PassesSix};
 ghost use Rattle.format.specs.Bytes.{longest};
 ghost use Rattle.format.specs.Packs.{Packs};
-ghost use Rattle.checking.specs.Lent.{Blank, Kept};
+ghost use Rattle.lending.specs.Lists.{Blank, Kept};
 ghost use Rattle.packing.specs.Later.{PacksLater};
 
 // Packs a drawing into `out`. Where a check declines, `out` stays as it was.

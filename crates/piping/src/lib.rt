@@ -9,7 +9,7 @@
 // written is in no contract.
 //
 // The sources are document 01, "Listing": the program "reads a drawing from standard input"; and document 02, 1/14:
-// "A program reads a map's bytes from standard input and prints it". specs/Heard.antt says what a program prints where
+// "A program reads a map's bytes from standard input and prints it". The crate `text`, specs/Heard, says what a program prints where
 // its input was not read to its end, and proofs/Ending.antt has the laws for both cases.
 mod streams;
 

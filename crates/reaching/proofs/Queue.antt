@@ -22,9 +22,9 @@ use mir.Syntax.{w64}
 use mir.Val.{Fits}
 use Rattle.count.proofs.Logic.{same-or-not, true-not-false}
 use Rattle.count.proofs.Below.{count-not, count-le, count-same, count-before, count-none, count-one-less}
-use Rattle.checking.specs.Lent.{Blank}
+use Rattle.lending.specs.Lists.{Blank}
+use Rattle.lending.proofs.Kept.{kept-none, kept-set, kept-then}
 use Rattle.reaching.specs.Queue.{IsFlagged, isOn, queued, Queued, Longer}
-use Rattle.checking.proofs.Working.{kept-none, kept-set, kept-then}
 
 pub on-yes : (w : List ℕ) (x : ℕ) → IsFlagged w x → isOn w x ≡ true
 on-yes w x f = rw (ne-eqb (getD w x 0) 0 f)

@@ -27,9 +27,10 @@ use Rattle.drawing.specs.Tree.{SuggestedTree}
 use Rattle.drawing.proofs.Ends.{other-below, border-below}
 use Rattle.drawing.proofs.Labels.{linked-within, cycle-linked, joins-from}
 use Rattle.drawing.proofs.Cells.{cells-none, points-are}
-use Rattle.checking.specs.Lent.{next, Turns, Blank, Kept}
+use Rattle.lending.specs.Lists.{Blank, Kept}
+use Rattle.lending.proofs.Kept.{kept-none, kept-then}
+use Rattle.checking.specs.Lent.{next, Turns}
 use Rattle.checking.proofs.Laws.{turns-permute}
-use Rattle.checking.proofs.Working.{kept-none, kept-then}
 use Rattle.reaching.specs.Queue.{IsFlagged, isOn, queued, least, Whole, Gathered}
 use Rattle.reaching.specs.Reaching.{treeAt, treeIn, marksIn, Reached, Crossed, Spread}
 use Rattle.reaching.proofs.Queue.{on-yes, on-no, queue-few, queue-room}

@@ -26,10 +26,10 @@ use Rattle.drawing.specs.Drawing.{Drawing, borders, ends, border, other, marked
 use Rattle.drawing.specs.Checks.{Linked, across}
 use Rattle.drawing.proofs.Ends.{other-below, other-border, border-below, border-two}
 use Rattle.drawing.proofs.Labels.{linked-within, linked-trans, cycle-linked}
+use Rattle.lending.proofs.Kept.{kept-none}
 use Rattle.checking.specs.Lent.{next, Turns}
 use Rattle.checking.proofs.Laws.{turns-permute}
 use Rattle.checking.proofs.Decided.{passes, fails}
-use Rattle.checking.proofs.Working.{kept-none}
 use Rattle.reaching.specs.declared.search.Borders.{Borders}
 use Rattle.reaching.specs.declared.search.Borders.the-variants as the-set
 use Rattle.reaching.specs.Queue.{IsFlagged, Queued, least, Whole, Gathered}

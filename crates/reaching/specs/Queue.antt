@@ -18,7 +18,8 @@ use lib.ListN.{length, getD}
 use lib.Dec.{eqb}
 use Rattle.count.specs.Below.{count}
 use Rattle.orbits.specs.Cycles.{low}
-use Rattle.checking.specs.Lent.{next, Kept}
+use Rattle.lending.specs.Lists.{Kept}
+use Rattle.checking.specs.Lent.{next}
 
 abbrev pub IsFlagged : List ℕ → ℕ → Type 0
 IsFlagged w x = getD w x 0 ≢ 0

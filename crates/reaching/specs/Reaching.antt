@@ -22,7 +22,8 @@ use Rattle.orbits.specs.Cycles.{leads}
 use Rattle.drawing.specs.Drawing.{Drawing, border, other, marked, cells, lent}
 use Rattle.drawing.specs.Checks.{Linked, Joins, connected}
 use Rattle.drawing.specs.Tree.{SuggestedTree}
-use Rattle.checking.specs.Lent.{next, Kept}
+use Rattle.lending.specs.Lists.{Kept}
+use Rattle.checking.specs.Lent.{next}
 use Rattle.reaching.specs.declared.search.Borders.{Borders}
 use Rattle.reaching.specs.declared.search.Borders.the-variants as the-set
 use Rattle.reaching.specs.Queue.{IsFlagged, isOn, queued, Queued, Whole}

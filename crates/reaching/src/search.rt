@@ -4,7 +4,8 @@ use checking::other;
 ghost use mathlib.Core.Path.{_≡_};
 ghost use Prim.Native.Nat.{ℕ, _*_, _<_};
 ghost use lib.ListN.{length};
-ghost use Rattle.checking.specs.Lent.{Turns, Blank, Kept};
+ghost use Rattle.lending.specs.Lists.{Blank, Kept};
+ghost use Rattle.checking.specs.Lent.{Turns};
 ghost use Rattle.reaching.specs.Queue.{IsFlagged, Queued, Whole, Gathered};
 ghost use Rattle.reaching.specs.Reaching.{allowed, Reached, Crossed, Spread};
 

@@ -8,7 +8,8 @@ ghost use Rattle.count.specs.Below.{pick, table};
 ghost use Rattle.answers.specs.Answer.{Kind};
 ghost use Rattle.drawing.specs.Drawing.{cells, lent};
 ghost use Rattle.drawing.specs.Checks.{joined};
-ghost use Rattle.checking.specs.Lent.{Turns, Blank, Kept};
+ghost use Rattle.lending.specs.Lists.{Blank, Kept};
+ghost use Rattle.checking.specs.Lent.{Turns};
 ghost use Rattle.reaching.specs.Reaching.{MarksAt, FindsTree};
 
 // 5 and 6: how many points there are if the marked borders join them all, else 0.

@@ -15,9 +15,8 @@
 // looks up in them; few calls walk through the bytes.
 //
 // The source is document 01, "The drawing's book": "A session is a first number and a list of calls"; "on the
-// packed map too the place passes from call to call as in the book". specs/Codes.antt has the codes,
-// specs/Runs.antt what `session` answers and what the lists hold after it; a session itself is `mapSession` of
-// the crate `format`.
+// packed map too the place passes from call to call as in the book". The crate `format`, specs/Sessions, has the
+// codes and what `session` answers; the crate `answers`, specs/Lent, what the lists hold after it.
 mod calls;
 mod codes;
 mod runs;

@@ -4,7 +4,8 @@ ghost use Prim.Native.Nat.{ℕ, _*_};
 ghost use lib.ListN.{length};
 ghost use Rattle.drawing.specs.Drawing.{lent};
 ghost use Rattle.format.specs.Suggest.{Suggests};
-ghost use Rattle.checking.specs.Lent.{Ranged, Blank};
+ghost use Rattle.lending.specs.Lists.{Blank};
+ghost use Rattle.checking.specs.Lent.{Ranged};
 ghost use Rattle.suggesting.specs.Later.{SuggestsLater};
 
 // Writes marks of a spanning tree. Where a check declines, they stay as they were. What they were is not read.

@@ -1,3 +1,2 @@
 -- The tour in the working list: the laws.
-pub mod Outside
 pub mod Touring

@@ -25,8 +25,9 @@ use Rattle.count.proofs.Logic.{same-or-not, either-left}
 use Rattle.drawing.specs.Drawing.{borders, ends, border, other, turn, isMarked, over, walk, endAt, lent}
 use Rattle.drawing.specs.Checks.{LengthsFit, InRange}
 use Rattle.drawing.proofs.Ends.{other-below, over-yes, over-no, end-zero, end-after}
-use Rattle.touring.specs.Working.{Outside, Tours, Clean, Noted, tourIn, borderIn, met, isMet}
-use Rattle.touring.proofs.Outside.{outside-none, outside-set}
+use Rattle.lending.specs.Lists.{Outside}
+use Rattle.lending.proofs.Outside.{outside-none, outside-set}
+use Rattle.touring.specs.Working.{Tours, Clean, Noted, tourIn, borderIn, met, isMet}
 
 -- ---- border_in
 pub border-is : (w : List ℕ) (p x : ℕ) → x ≡ getD w p 0 → x / 2 ≡ borderIn w p

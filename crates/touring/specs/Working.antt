@@ -2,8 +2,6 @@
 --
 -- A third has as many entries as there are places, 2m, which are as many as the ends.
 --
--- Outside a e old new == the lists are equally long, and equal but for the entries from a up to e
--- Zeroed a e old new  == new is old with 0 for the entries from a up to e
 -- tourIn w p          == the end that stands at position p
 -- borderIn w p        == its border
 -- met t p             == whether the border at position p of the tour t was met before
@@ -22,16 +20,8 @@ use lib.Dec.{eqb}
 use lib.ListN.{length, getD}
 use Rattle.count.specs.Below.{any, pick}
 use Rattle.orbits.specs.Cycles.{Permutes}
+use Rattle.lending.specs.Lists.{Outside}
 use Rattle.drawing.specs.Drawing.{mostEnds, Drawing, ends, border, endAt}
-
-pub record Outside (a e : ℕ) (old new : List ℕ) : Type 0 where
-  pub same-length : length new ≡ length old
-  pub before : (i : ℕ) → i < a → getD new i 0 ≡ getD old i 0
-  pub after : (i : ℕ) → e ≤ i → getD new i 0 ≡ getD old i 0
-
-pub record Zeroed (a e : ℕ) (old new : List ℕ) : Type 0 where
-  pub zero : (i : ℕ) → a ≤ i → i < e → getD new i 0 ≡ 0
-  pub outside : Outside a e old new
 
 abbrev pub tourIn : List ℕ → ℕ → ℕ
 tourIn w p = getD w p 0

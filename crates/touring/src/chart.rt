@@ -6,7 +6,8 @@ ghost use Prim.Native.Nat.{ℕ, _*_, _<_, _≤_};
 ghost use lib.ListN.{length};
 ghost use Rattle.drawing.specs.Drawing.{isMarked, over, lent};
 ghost use Rattle.drawing.specs.Checks.{LengthsFit, InRange};
-ghost use Rattle.touring.specs.Working.{Outside, Tours, Clean, Noted};
+ghost use Rattle.lending.specs.Lists.{Outside};
+ghost use Rattle.touring.specs.Working.{Tours, Clean, Noted};
 
 // Puts the end at each position of the tour into the first 2m entries.
 pub fn tour(turning: &[u16], marks: &[u8], start: usize, work: &mut [u16])

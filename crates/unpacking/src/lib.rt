@@ -12,8 +12,8 @@
 // stack.
 //
 // The source is document 01, "Tour and packed map", and its table, rows 8 to 12 and 16, with document 02,
-// 6/14. The drawing of a word is defined in the crate `format`; specs/Answers.antt says what an answer
-// means, and the crate `drawing`, specs/Laid.antt, what the lists hold after it.
+// 6/14. The drawing of a word is defined in the crate `format`; the crate `answers` says what an answer means,
+// and what the lists hold after it.
 mod ends;
 mod lists;
 

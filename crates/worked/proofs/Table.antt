@@ -1,4 +1,4 @@
--- The examples of document 01's table, 1 to 17, of 20, of the two forms of cards, and what unpacking gives, by computation.
+-- The examples of document 01's table, 1 to 17, of 20 and 21, of the two forms of cards, and what unpacking gives, by computation.
 -- Assumes nothing.
 use mathlib.Core.Path.{_≡_, refl}
 use mathlib.Core.List.{[], _∷_}
@@ -8,6 +8,7 @@ use Rattle.format.specs.Before.{refusalBefore}
 use Rattle.format.specs.Calls.{crossOf, firstOf, sizeOf, joiningOf}
 use Rattle.format.specs.Open.{openOf}
 use Rattle.format.specs.Pack.{packOf, unpackOf}
+use Rattle.format.specs.Suggest.{marksRefusal}
 use Rattle.text.specs.Decimal.{codes}
 use Rattle.text.specs.Input.{readText}
 use Rattle.text.specs.Listing.{placesOf}
@@ -42,6 +43,20 @@ pack-rows =
       row-7 = refl;
       loops-6 = refl;
     }
+
+-- the rows of finding marks: 1 to 4, and 21; neither marks nor start are looked at
+pub record MarksRows : Type 0 where
+  pub row-1 : marksRefusal (drawing (0 ∷ 1 ∷ 2 ∷ []) (1 ∷ [])) 6 ≡ 1
+  pub row-2 : marksRefusal enclave 5 ≡ 2
+  pub row-3 : marksRefusal (drawing (0 ∷ 2 ∷ []) (9 ∷ [])) 6 ≡ 3
+  pub row-4 : marksRefusal (drawing (0 ∷ 0 ∷ []) (9 ∷ [])) 6 ≡ 4
+  -- two loops, each on a point of its own
+  pub row-21 : marksRefusal (drawing (1 ∷ 0 ∷ 3 ∷ 2 ∷ []) (9 ∷ 9 ∷ [])) 12 ≡ 21
+  pub enough : marksRefusal (drawing (1 ∷ 0 ∷ []) (9 ∷ [])) 6 ≡ 0
+
+pub marks-rows : MarksRows
+unfolding marksRefusal
+marks-rows = record { row-1 = refl; row-2 = refl; row-3 = refl; row-4 = refl; row-21 = refl; enough = refl }
 
 -- the rows of calls on map bytes: 8 to 16, and 20
 pub record MapRows : Type 0 where

@@ -1,6 +1,6 @@
 -- `checking::distinct::is_distinct` meets its contract. Assumes nothing.
 use borrow.Author.Needs.{needs}
-use Rattle.checking.proofs.Working.{restored-all}
+use Rattle.lending.proofs.Kept.{restored-all}
 use Rattle.checking.proofs.distinct.is_distinct.Statement.{statement}
 use Rattle.checking.proofs.distinct.is_distinct.Tie as tie
 

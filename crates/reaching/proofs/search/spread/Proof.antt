@@ -3,7 +3,7 @@ use native.Mathlib.Omega.{arith}
 use Prim.Native.Nat.{_-_}
 use lib.ListN.{length}
 use borrow.Author.Needs.{needs}
-use Rattle.checking.proofs.Working.{kept-none}
+use Rattle.lending.proofs.Kept.{kept-none}
 use Rattle.reaching.specs.Reaching.{allowed}
 use Rattle.reaching.proofs.Queue.{queue-none, queue-few}
 use Rattle.reaching.proofs.Reach.{Searching, blank-whole, spread-none, search-start, search-next, search-flagged, search-at, search-more, search-kept, search-spread}

@@ -1,7 +1,7 @@
 -- `reaching::tree::find_tree` meets its contract. Assumes nothing.
 use native.Mathlib.Omega.{arith}
 use borrow.Author.Needs.{needs}
-use Rattle.checking.proofs.Working.{restored}
+use Rattle.lending.proofs.Kept.{restored}
 use Rattle.reaching.proofs.tree.find_tree.Statement.{statement}
 use Rattle.reaching.proofs.tree.find_tree.Tie as tie
 

@@ -1,7 +1,7 @@
 -- `reaching::tree::joined_points` meets its contract. Assumes nothing.
 use native.Mathlib.Omega.{arith}
 use borrow.Author.Needs.{needs}
-use Rattle.checking.proofs.Working.{restored}
+use Rattle.lending.proofs.Kept.{restored}
 use Rattle.reaching.proofs.Told.{points-not, points-are}
 use Rattle.reaching.proofs.tree.joined_points.Statement.{statement}
 use Rattle.reaching.proofs.tree.joined_points.Tie as tie

@@ -8,7 +8,7 @@ use Prim.Native.Nat.{ℕ, _<_, _≤_}
 use native.Mathlib.Omega.{arith}
 use lib.ListN.{set, length-set}
 use lib.Seq.{getD-set-other}
-use Rattle.touring.specs.Working.{Outside}
+use Rattle.lending.specs.Lists.{Outside}
 
 module _ (a e : ℕ) where
   pub outside-none : (l : List ℕ) → Outside a e l l

@@ -13,10 +13,10 @@ use Prim.Native.Nat.{ℕ, _*_, _<_, _≤_}
 use native.Mathlib.Omega.{arith}
 use lib.ListN.{length, set, length-set}
 use lib.Seq.{getD-set-other, ext-getD}
 use Rattle.lending.proofs.Clearing.{cleared-length, cleared-first, cleared-rest}
 use Rattle.count.proofs.Logic.{lt-or-ge}
 use Rattle.answers.specs.Lent.{cleared}
-use Rattle.checking.specs.Lent.{Blank, Kept}
+use Rattle.lending.specs.Lists.{Blank, Kept}
 
 pub kept-none : (k : ℕ) (l : List ℕ) → Kept k l l
 kept-none k l = record { same-length = refl; rest = λ i h. refl }
