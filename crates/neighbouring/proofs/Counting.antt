@@ -4,7 +4,7 @@
 -- own-index, area-index, flag-most, others-fit == there is a flag for the area, and what is stored fits
 -- counting-start, counting-more, counting-end == before the first entry, one more, after the last
 -- landed-others   == the others among the areas across the sides of an area are its neighbours
--- countable-all, counted-all, countable-few, counted-few == so they are counted, in either list
+-- countable-all, counted-all == so they are counted
 -- Assumes nothing.
 use mathlib.Core.Path.{_≡_, refl, sym, ap, _∙_}
 use mathlib.Core.Logic.{_≢_, inl, inr}

@@ -3,7 +3,7 @@
 -- Summing         == what the loop of `sum_in` keeps: the factors of the entries before i are added
 -- summing-start, summing-more, summing-end == before the first entry, one more, after the last
 -- entry-lent, count-fits == the lists have an entry for the area, and the count has room
--- summable-all, summed-all, summable-few, summed-few == the areas across the sides of an area, in either list
+-- summable-all, summed-all == the areas across the sides of an area
 -- Assumes nothing.
 use mathlib.Core.Path.{_≡_, refl, sym, ap, _∙_}
 use mathlib.Core.List.{List, [], _∷_, _++_}
