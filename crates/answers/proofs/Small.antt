@@ -16,9 +16,9 @@ pub record Cases : Type 0 where
   pub first : refusalIn (tested 8 true ∷ tested 20 false ∷ tested 9 false ∷ []) ≡ 20
   pub none : refusalIn (tested 8 true ∷ tested 20 true ∷ []) ≡ 0
   -- a number that stands twice
-  pub twice : after (tested 8 true ∷ tested 9 true ∷ tested 8 false ∷ []) 5 ≡ refused 8
-  pub answers : after (tested 8 true ∷ tested 9 true ∷ []) 5 ≡ answer 5
-  pub carries : after (tested 6 true ∷ record { number = 7; carries = 1 ∷ 4 ∷ []; test = false; holds = Unit } ∷ []) 5 ≡ refusedWith 7 (1 ∷ 4 ∷ [])
+  pub twice : after {A = ℕ} (tested 8 true ∷ tested 9 true ∷ tested 8 false ∷ []) 5 ≡ refused 8
+  pub answers : after {A = ℕ} (tested 8 true ∷ tested 9 true ∷ []) 5 ≡ answer 5
+  pub carries : after {A = ℕ} (tested 6 true ∷ record { number = 7; carries = 1 ∷ 4 ∷ []; test = false; holds = Unit } ∷ []) 5 ≡ refusedWith 7 (1 ∷ 4 ∷ [])
   pub tells : told (λ (x : ℕ). x ∷ []) (answer 5) ≡ answer (5 ∷ [])
   -- an answer stands at the front, and nothing beyond it changes; a refusal changes nothing
   pub put : leaves laid (answer (1 ∷ [])) (7 ∷ 8 ∷ []) ≡ 1 ∷ 8 ∷ []
