@@ -23,7 +23,7 @@ pub record Cases : Type 0 where
   -- an answer stands at the front, and nothing beyond it changes; a refusal changes nothing
   pub put : leaves laid (answer (1 ∷ [])) (7 ∷ 8 ∷ []) ≡ 1 ∷ 8 ∷ []
   pub unchanged : leaves laid (refused 2) (7 ∷ 8 ∷ []) ≡ 7 ∷ 8 ∷ []
-  pub itself-put : leaves itself (answer 5) 7 ≡ 5
+  pub itself-put : leaves {A = ℕ} {B = ℕ} itself (answer 5) 7 ≡ 5
   pub two-cleared : cleared 2 (7 ∷ 8 ∷ 9 ∷ []) ≡ 0 ∷ 0 ∷ 9 ∷ []
   pub no-point : noSuch Kind.point ≡ 14
   pub no-area : noSuch Kind.area ≡ 15
