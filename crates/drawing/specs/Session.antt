@@ -10,8 +10,7 @@ use mathlib.Core.Bool.{Bool, true, false}
 use mathlib.Core.List.{List, [], _∷_}
 use Prim.Native.Nat.{ℕ}
 use Rattle.count.specs.Below.{pick}
-pub use Rattle.answers.specs.Answer.{Answer, answer, refusedWith, refused}
-unfoldable pub use Rattle.answers.specs.Answer.{numberOf, carriedBy, valueOf}
+use Rattle.answers.specs.Answer.{Answer, answer, refusedWith}
 
 pub data Call : Type 0 where
   cross turn turn-back along point area : Call

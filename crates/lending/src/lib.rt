@@ -1,6 +1,7 @@
-// Memory that a caller lends: lists of 16-bit numbers, and the numbers that index them.
+// Memory that a caller lends: lists of 16-bit numbers and of bytes, and the numbers that index them.
 //
-//     clear   makes the first k entries of a list 0
+//     clear   makes the first k entries of a list of 16-bit numbers 0
+//     zero    makes the first k bytes 0
 //     least   the lesser of two numbers
 //     wide    a 16-bit number as an index
 //
@@ -11,5 +12,6 @@ mod lists;
 mod numbers;
 
 pub use lists::clear;
+pub use lists::zero;
 pub use numbers::least;
 pub use numbers::wide;

@@ -4,12 +4,12 @@ use format::AT_AREAS;
 use format::AT_M;
 use format::AT_N;
 use format::HEADER;
-use lending::least;
+use lending::zero;
 ghost use mathlib.Core.Path.{_≡_};
 ghost use Prim.Native.Nat.{_+_, _*_, _<_, _≤_};
 ghost use lib.ListN.{length};
 ghost use Rattle.count.specs.Below.{pick};
-ghost use Rattle.answers.specs.Lent.{cleared, laid};
+ghost use Rattle.answers.specs.Lent.{laid};
 ghost use Rattle.words.specs.declared.family.Family.the-variants.{Round as round, Square as square};
 ghost use Rattle.drawing.specs.Drawing.{mostBorders, mostEnds};
 ghost use Rattle.format.specs.Bytes.{longest, header, headerOf, startB, mapLength};
@@ -61,18 +61,6 @@ pub fn put_letter(
     let at = chosen(marked, 8 * b + rounds, 8 * c + (p - rounds));
     bits::set_bit(out, at, closing);
     chosen(marked, rounds + 1, rounds)
-}
-
-// Makes the first k bytes 0, all of them where there are fewer.
-fn zero(out: &mut [u8], k: usize)
-    ensures { λ _. ⌜ now (out .exit) ≡ cleared k (now (out .entry)) ⌝ }
-{
-    let n = least(k, out.len());
-    let mut i = 0;
-    while i < n {
-        out[i] = 0;
-        i += 1;
-    }
 }
 
 // The header: m, n and the count of areas.

@@ -1,9 +1,9 @@
--- `lettering::put::zero` meets its contract. The loop keeps `Filled`: the first entries are 0, the rest as before. Assumes nothing.
+-- `lending::lists::zero` meets its contract. The loop keeps `Filled`: the first entries are 0, the rest as before. Assumes nothing.
 use native.Mathlib.Omega.{arith}
 use Prim.Native.Nat.{_-_}
 use Rattle.lending.proofs.Clearing.{Filled, clear-all}
-use Rattle.lettering.proofs.put.zero.Statement.{statement}
-use Rattle.lettering.proofs.put.zero.Tie as tie
+use Rattle.lending.proofs.lists.zero.Statement.{statement}
+use Rattle.lending.proofs.lists.zero.Tie as tie
 
 abbrev Inv-loop : tie.InvT-loop
 Inv-loop out₀ k n i₀ out i = Filled out₀ n i out
