@@ -1,12 +1,11 @@
 -- Passing one bracket: what the code does, and what that means in the word of a map.
 --
--- entry-room, passes-is == the entry that `passed` reads, and what it leaves
+-- entry-room, label-room, passes-is == the entries that `passed` reads, and what it leaves
 -- begun-is        == so the lists that `survey` makes are begun
 -- Known s old p l == just before position p all lists hold what belongs there
 -- known-start     == before the first position
--- known-ends, known-number == the stacks end in their lists; the label there is the number
 -- known-passable  == what is asked to pass the bracket at p
--- known-more      == it is passed
+-- known-more, known-label == it is passed, and the label where its stack ends is the number of the next position
 -- Assumes nothing.
 use mathlib.Core.Path.{_≡_, refl, sym, ap, _∙_}
 use mathlib.Core.Logic.{_≢_, _⊎_, inl, inr}
@@ -42,6 +41,10 @@ module _ (x v p : ℕ) (ts rs os ls ms : List ℕ) where
       → getD ts x 0 + 1 - v < length (set os (getD ts x 0 + 1) p)
   entry-room P = omega (arith, P .opened, length-set os (getD ts x 0 + 1) p)
 
+  pub label-room : Passable x v p (record { top = ts; reached = rs; opened = os; labels = ls; mates = ms })
+      → getD ts x 0 + 1 - v - v < length (set ls (getD ts x 0 + 1) (getD rs x 0 + 1))
+  label-room P = omega (arith, P .labelled, length-set ls (getD ts x 0 + 1) (getD rs x 0 + 1))
+
   pub passes-is : (q : ℕ) → q ≡ getD (set os (getD ts x 0 + 1) p) (getD ts x 0 + 1 - v) 0
       → Passes x v p (record { top = ts; reached = rs; opened = os; labels = ls; mates = ms })
       (record {
@@ -51,7 +54,8 @@ module _ (x v p : ℕ) (ts rs os ls ms : List ℕ) where
         labels = set ls (getD ts x 0 + 1) (getD rs x 0 + 1);
         mates = set (set ms q p) p q;
       })
-  passes-is q h = rw h (record { top = refl; reached = refl; opened = refl; labels = refl; mates = refl })
+      (getD (set ls (getD ts x 0 + 1) (getD rs x 0 + 1)) (getD ts x 0 + 1 - v - v) 0)
+  passes-is q h = rw h (record { top = refl; reached = refl; opened = refl; labels = refl; mates = refl; label = refl })
 
 pub begun-is : (z : Size) (e : ℕ) (ms : List ℕ) → e ≡ areasOf z → mostEnds ≤ length ms
     → Begun z (record { top = 0 ∷ (e + 1) ∷ []; reached = replicate 2 1; opened = replicate 2052 0; labels = replicate 2052 1; mates = ms })
@@ -134,18 +138,14 @@ module _ (s : List ℕ) (o : openRefusal s ≡ 0) where
       reached round = B .reached-round
       reached square = B .reached-square
 
-  module _ (old : List ℕ) (p : ℕ) (l : Lists) (N : Known s old p l) (i : p < bitsA (sizeIn s)) where
-    deep-few : (K : Family) → N .stacked K .deep < cells K (sizeIn s)
-    deep-few K = omega (arith, N .stacked K .few, few-open K p (omega arith))
+  module _ (old : List ℕ) (p : ℕ) (l : Lists) (N : Known s old p l) where
+    deep-few : (K : Family) → p ≤ bitsA (sizeIn s) → N .stacked K .deep < cells K (sizeIn s)
+    deep-few K i = omega (arith, N .stacked K .few, few-open K p i)
 
-    pub known-ends : (K : Family) → getD (l .top) (familyBit K) 0 + 1 < stackRoom
-    known-ends K = omega (arith, N .stacked K .ends, in-room K (N .stacked K .deep) (deep-few K))
+    known-ends : (K : Family) → p ≤ bitsA (sizeIn s) → getD (l .top) (familyBit K) 0 + 1 < stackRoom
+    known-ends K i = omega (arith, N .stacked K .ends, in-room K (N .stacked K .deep) (deep-few K i))
 
-    pub known-number : (K : Family) → getD (l .labels) (getD (l .top) (familyBit K) 0) 0 ≡ number (seen K (wordIn s)) p
-    known-number K =
-        stacked-number K (wordIn s) (bottom K (sizeIn s)) p (getD (l .top) (familyBit K) 0) (getD (l .reached) (familyBit K) 0) (l .opened) (l .labels) (N .stacked K)
-
-    module _ (K : Family) (own : bit (partA s) p ≡ familyBit K) (v : ℕ) (hv : v ≡ bit (partB K s) (rank (familyBit K) (partA s) p)) where
+    module _ (i : p < bitsA (sizeIn s)) (K : Family) (own : bit (partA s) p ≡ familyBit K) (v : ℕ) (hv : v ≡ bit (partB K s) (rank (familyBit K) (partA s) p)) where
       opens-here : v ≡ 0 → seen K (wordIn s) p ≡ opens
       opens-here z = seen-opens s K p own (sym hv ∙ z)
 
@@ -166,10 +166,10 @@ module _ (s : List ℕ) (o : openRefusal s ≡ 0) where
           stacked-inner K (wordIn s) (bottom K (sizeIn s)) p t r (l .opened) (l .labels) (N .stacked K) (nested s K o .closing p i (closes-here n))
 
       opened-room : t + 1 < length (l .opened)
-      opened-room = omega (arith, known-ends K, N .opened-long)
+      opened-room = omega (arith, known-ends K (omega arith), N .opened-long)
 
       labels-room : t + 1 < length (l .labels)
-      labels-room = omega (arith, known-ends K, N .labels-long)
+      labels-room = omega (arith, known-ends K (omega arith), N .labels-long)
 
       partner-opens : v ≡ 0 → partner (familyBit K) v p l ≡ p
       partner-opens z =
@@ -216,12 +216,12 @@ module _ (s : List ℕ) (o : openRefusal s ≡ 0) where
           stacked-stays X (wordIn s) a p t₀ r₀ (set (l .opened) (t + 1) p) (set (l .labels) (t + 1) (r + 1))
           (stacked-aside X (wordIn s) a p t₀ r₀ (l .opened) (l .labels) (N .stacked X) (t + 1) p (r + 1)
           (λ c h e.
-          apart K X (sizeIn s) (N .stacked K .deep) c d (deep-few K) (omega (arith, deep-few X)) (omega (arith, N .stacked K .ends))))
+          apart K X (sizeIn s) (N .stacked K .deep) c d (deep-few K (omega arith)) (omega (arith, deep-few X (omega arith))) (omega (arith, N .stacked K .ends))))
           (seen-neither s X p (λ e. d (sym e ∙ own)))
 
-      pub known-more : (k : Lists) → Passes (familyBit K) v p l k → Known s old (p + 1) k
+      pub known-more : (k : Lists) (y : ℕ) → Passes (familyBit K) v p l k y → Known s old (p + 1) k
       unfolding wordIn
-      known-more k T =
+      known-more k y T =
           let x : ℕ = familyBit K in
           let b2 = bit-two K in
           rw (T .top, T .reached, T .opened, T .labels, T .mates)
@@ -255,3 +255,12 @@ module _ (s : List ℕ) (o : openRefusal s ≡ 0) where
                       paired-closes (wordIn s) old (λ X. nested s X o) K p i (l .mates) (N .mates) (partner (familyBit K) v p l) (closes-here n) (partner-closes n)
                 ];
           })
+
+      pub known-label : (k : Lists) (y : ℕ) → Passes (familyBit K) v p l k y → y ≡ number (seen K (wordIn s)) (p + 1)
+      known-label k y T =
+          let x : ℕ = familyBit K in
+          let b2 = bit-two K in
+          T .label
+          ∙ ap (λ i. getD (k .labels) i 0)
+          (sym (ap (λ ts. getD ts x 0) (T .top) ∙ getD-set-same (l .top) x (t + 1 - v - v) 0 (omega (arith, N .top-long))))
+          ∙ stacked-number K (wordIn s) (bottom K (sizeIn s)) (p + 1) (getD (k .top) x 0) (getD (k .reached) x 0) (k .opened) (k .labels) (known-more k y T .stacked K)

@@ -10,7 +10,7 @@
 -- above, partner  == the first entry beyond the stack of x; what stands at the entry that a bracket with the bit v ends up at, once p is
 --                    put beyond the stack: p itself at an opening, the innermost open bracket at a closing
 -- Passable        == the bracket at p can be passed
--- Passes          == what is done, by the bit v that tells an opening (0) from a closing (1)
+-- Passes          == what is done, by the bit v that tells an opening (0) from a closing (1); k is the label where the stack then ends
 -- Assumes nothing.
 use mathlib.Core.Path.{_≡_}
 use mathlib.Core.List.{List}
@@ -65,9 +65,10 @@ pub record Passable (x v p : ℕ) (l : Lists) : Type 0 where
   pub labelled : above x l < length (l .labels)
   pub paired : partner x v p l < length (l .mates)
 
-pub record Passes (x v p : ℕ) (l r : Lists) : Type 0 where
+pub record Passes (x v p : ℕ) (l r : Lists) (k : ℕ) : Type 0 where
   pub top : r .top ≡ set (l .top) x (above x l - v - v)
   pub reached : r .reached ≡ set (l .reached) x (getD (l .reached) x 0 + 1 - v)
   pub opened : r .opened ≡ set (l .opened) (above x l) p
   pub labels : r .labels ≡ set (l .labels) (above x l) (getD (l .reached) x 0 + 1)
   pub mates : r .mates ≡ set (set (l .mates) (partner x v p l) p) p (partner x v p l)
+  pub label : k ≡ getD (r .labels) (above x l - v - v) 0

@@ -80,22 +80,32 @@ fn fill(
 {
     let a = part_a(map);
     let n = bits_a(map);
+    let mut point = 1;
+    let mut area = 1;
     let mut p = 0;
     while p < n {
         let x = bits::bit(a, p);
         let v = bits::bit(map, unread[x]);
         unread[x] += 1;
-        let point = top[1];
-        points[p] = labels[point];
-        let area = top[0];
-        areas[p] = labels[area];
-        passed(x, v, p, top, reached, opened, labels, mates);
+        points[p] = point;
+        areas[p] = area;
+        let k = passed(x, v, p, top, reached, opened, labels, mates);
+        point = chosen(x, k, point);
+        area = chosen(x, area, k);
         p += 1;
     }
 }
 
+// One of two numbers: the first where x is 1, the second where it is 0.
+fn chosen(x: usize, first: u16, second: u16) -> u16
+    ensures { λ r. ⌜ (x ≡ 0 → r ≡ second) × ((x ≡ 0 → ⊥) → r ≡ first) ⌝ }
+{
+    if x == 0 { second } else { first }
+}
+
 // Passes the bracket at position p, of the family with the bit x: it opens where v is 0. An opening is put on the stack of its
-// family with the number of the point (area) that it reaches. A closing takes the innermost open bracket off: they are mates.
+// family with the number of the point (area) that it reaches. A closing takes the innermost open bracket off: they are mates. Answers
+// the number of the point (area) after it.
 fn passed(
     x: usize,
     v: usize,
@@ -105,9 +115,9 @@ fn passed(
     opened: &mut [u16],
     labels: &mut [u16],
     mates: &mut [u16],
-)
+) -> u16
     requires { ⌜ Passable x v p (record { top = now top; reached = now reached; opened = now opened; labels = now labels; mates = now mates }) ⌝ }
-    ensures { λ _. ⌜ Passes x v p
+    ensures { λ k. ⌜ Passes x v p
         (record {
           top = now (top .entry);
           reached = now (reached .entry);
@@ -121,16 +131,19 @@ fn passed(
           opened = now (opened .exit);
           labels = now (labels .exit);
           mates = now (mates .exit);
-        }) ⌝ }
+        })
+        k ⌝ }
 {
     let t = top[x];
     let k = reached[x] + 1;
     let u = t + 1 - v;
-    top[x] = u - v;
+    let end = u - v;
+    top[x] = end;
     reached[x] = k - v;
     opened[t + 1] = p as u16;
     labels[t + 1] = k as u16;
     let q = wide(opened[u]);
     mates[q] = p as u16;
     mates[p] = q as u16;
+    labels[end]
 }

@@ -2,16 +2,17 @@
 use Prim.Native.Nat.{_-_}
 use native.Mathlib.Omega.{arith}
 use borrow.Author.Needs.{needs}
-use Rattle.surveying.proofs.Surveying.{Surveying, surveying-start, mates-end, areas-end, points-end, mates-hold, areas-hold, points-hold, point-room, area-room, round-label, square-label, read-few, surveying-passable, surveying-more}
+use Rattle.surveying.proofs.Surveying.{Surveying, surveying-start, mates-end, areas-end, points-end, mates-hold, areas-hold, points-hold, point-room, area-room, read-few, surveying-passable, surveying-more}
 use Rattle.surveying.proofs.pass.fill.Statement.{statement}
 use Rattle.surveying.proofs.pass.fill.Tie as tie
 
 abbrev Inv-loop : tie.InvT-loop
-Inv-loop map top₀ reached₀ opened₀ labels₀ unread₀ mates₀ areas₀ points₀ a n p₀ top reached opened labels unread mates areas points p =
-    Surveying map mates₀ areas₀ points₀ a n top reached opened labels unread mates areas points p
+Inv-loop map top₀ reached₀ opened₀ labels₀ unread₀ mates₀ areas₀ points₀ a n point₀ area₀ p₀ top reached opened labels unread mates areas points point area p =
+    Surveying map mates₀ areas₀ points₀ a n top reached opened labels unread mates areas points p point area
 
 abbrev μ-loop : tie.MeasureT-loop
-μ-loop map top₀ reached₀ opened₀ labels₀ unread₀ mates₀ areas₀ points₀ a n p₀ top reached opened labels unread mates areas points p = n - p
+μ-loop map top₀ reached₀ opened₀ labels₀ unread₀ mates₀ areas₀ points₀ a n point₀ area₀ p₀ top reached opened labels unread mates areas points point area p =
+    n - p
 
 part-a-requires : tie.Need-part-a-requires Inv-loop μ-loop
 part-a-requires c κs = search needs
@@ -43,47 +44,31 @@ element-copy-out-unread c = search needs
 add-unread : tie.Need-add-unread Inv-loop μ-loop
 add-unread c =
     let bit = c .before .before .before in
-    record { fits = omega (arith, read-few _ _ _ _ _ _ _ _ _ _ _ _ _ _ _ (bit .before .before .loop .inv) _ (bit .before .loop-test .taken) (bit .bit .ensures .0)) }
+    record { fits = omega (arith, read-few _ _ _ _ _ _ _ _ _ _ _ _ _ _ _ _ _ (bit .before .before .loop .inv) _ (bit .before .loop-test .taken) (bit .bit .ensures .0)) }
 
 element-write-unread : tie.Need-element-write-unread Inv-loop μ-loop
 element-write-unread c = search needs
 
-element-copy-out-point : tie.Need-element-copy-out-point Inv-loop μ-loop
-element-copy-out-point c = search needs
-
 mul-points : tie.Need-mul-points Inv-loop μ-loop
-mul-points c =
-    let now = c .before .before .before .before .before in
-    record { fits = omega (arith, round-label _ _ _ _ _ _ _ _ _ _ _ _ _ _ _ (now .before .loop .inv) (now .loop-test .taken)) }
-
-element-copy-out-points : tie.Need-element-copy-out-points Inv-loop μ-loop
-element-copy-out-points c = search (round-label, square-label)
-
-mul-points-2 : tie.Need-mul-points-2 Inv-loop μ-loop
-mul-points-2 c = search needs
+mul-points c = search needs
 
 slice-write-points : tie.Need-slice-write-points Inv-loop μ-loop
 slice-write-points c = search point-room
 
-element-copy-out-area : tie.Need-element-copy-out-area Inv-loop μ-loop
-element-copy-out-area c = search needs
-
 mul-areas : tie.Need-mul-areas Inv-loop μ-loop
-mul-areas c =
-    let now = c .before .before .before .before .before .before .before in
-    record { fits = omega (arith, square-label _ _ _ _ _ _ _ _ _ _ _ _ _ _ _ (now .before .loop .inv) (now .loop-test .taken)) }
-
-element-copy-out-areas : tie.Need-element-copy-out-areas Inv-loop μ-loop
-element-copy-out-areas c = search (round-label, square-label)
-
-mul-areas-2 : tie.Need-mul-areas-2 Inv-loop μ-loop
-mul-areas-2 c = search needs
+mul-areas c = search needs
 
 slice-write-areas : tie.Need-slice-write-areas Inv-loop μ-loop
 slice-write-areas c = search area-room
 
 passed-requires : tie.Need-passed-requires Inv-loop μ-loop
 passed-requires c κs = search surveying-passable
+
+chosen-requires : tie.Need-chosen-requires Inv-loop μ-loop
+chosen-requires c κs = search needs
+
+chosen-requires-2 : tie.Need-chosen-requires-2 Inv-loop μ-loop
+chosen-requires-2 c κs = search needs
 
 add-p : tie.Need-add-p Inv-loop μ-loop
 add-p c = search needs
@@ -92,7 +77,12 @@ loop-less : tie.Need-loop-less Inv-loop μ-loop
 loop-less c = search needs
 
 loop-again : tie.Need-loop-again Inv-loop μ-loop
-loop-again c = search surveying-more
+loop-again c =
+    let passed = c .before .before .before .before in
+    let read = passed .before .before .before .before .before .before .before in
+    let bit = read .before .before in
+    let now = bit .before in
+    surveying-more _ _ _ _ _ _ _ _ _ _ _ _ _ _ _ _ _ (now .before .loop .inv) _ (now .loop-test .taken) (bit .bit .ensures .0) _ (read .bit2 .ensures .0) _ _ _ _ _ _ _ _ (passed .passed .ensures) (c .before .chosen .ensures) (c .chosen2 .ensures)
 
 same-length : tie.Need-same-length Inv-loop μ-loop
 same-length c = search needs
@@ -123,17 +113,13 @@ fill-spec =
     element-copy-out-unread
     add-unread
     element-write-unread
-    element-copy-out-point
     mul-points
-    element-copy-out-points
-    mul-points-2
     slice-write-points
-    element-copy-out-area
     mul-areas
-    element-copy-out-areas
-    mul-areas-2
     slice-write-areas
     passed-requires
+    chosen-requires
+    chosen-requires-2
     add-p
     loop-less
     loop-again

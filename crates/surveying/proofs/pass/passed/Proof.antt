@@ -1,5 +1,5 @@
 -- `surveying::pass::passed` meets its contract. Assumes nothing.
-use Rattle.surveying.proofs.Passed.{entry-room, passes-is}
+use Rattle.surveying.proofs.Passed.{entry-room, label-room, passes-is}
 use borrow.Author.Needs.{needs}
 use Rattle.surveying.proofs.pass.passed.Statement.{statement}
 use Rattle.surveying.proofs.pass.passed.Tie as tie
@@ -25,8 +25,8 @@ add-u c = search needs
 sub-u : tie.Need-sub-u
 sub-u c = search needs
 
-sub-top : tie.Need-sub-top
-sub-top c = search needs
+sub-end : tie.Need-sub-end
+sub-end c = search needs
 
 mul-top : tie.Need-mul-top
 mul-top c = search needs
@@ -94,6 +94,12 @@ mul-mates-2 c = search needs
 slice-write-mates-2 : tie.Need-slice-write-mates-2
 slice-write-mates-2 c = search needs
 
+mul-result : tie.Need-mul-result
+mul-result c = search needs
+
+slice-read-result : tie.Need-slice-read-result
+slice-read-result c = search label-room
+
 same-length : tie.Need-same-length
 same-length c = search needs
 
@@ -117,7 +123,7 @@ passed-spec =
     add-k
     add-u
     sub-u
-    sub-top
+    sub-end
     mul-top
     element-write-top
     sub-reached
@@ -140,6 +146,8 @@ passed-spec =
     cast-mates-2
     mul-mates-2
     slice-write-mates-2
+    mul-result
+    slice-read-result
     same-length
     same-length-2
     same-length-3
