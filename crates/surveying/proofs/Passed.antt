@@ -5,7 +5,7 @@
 -- Known s old p l == just before position p all lists hold what belongs there
 -- known-start     == before the first position
 -- known-passable  == what is asked to pass the bracket at p
--- known-more, known-label == it is passed, and the label where its stack ends is the number of the next position
+-- known-more      == it is passed
 -- Assumes nothing.
 use mathlib.Core.Path.{_≡_, refl, sym, ap, _∙_}
 use mathlib.Core.Logic.{_≢_, _⊎_, inl, inr}
@@ -21,8 +21,8 @@ use Rattle.words.specs.Brackets.{opens, closes, isOpens, inner, number}
 use Rattle.words.specs.declared.family.Family.{Family}
 use Rattle.words.specs.declared.family.Family.the-variants.{Round as round, Square as square}
 use Rattle.words.specs.Word.{seen}
-use Rattle.words.proofs.Stack.{inner-le}
-use Rattle.words.proofs.Numbers.{openings}
+use Rattle.words.proofs.Stack.{inner-le, inner-neither}
+use Rattle.words.proofs.Numbers.{openings, inner-number, number-zero}
 use Rattle.bits.specs.Strings.{bit, rank}
 use Rattle.bits.proofs.Laws.{bit-below-2}
 use Rattle.drawing.specs.Drawing.{mostEnds, Kind}
@@ -31,42 +31,50 @@ use Rattle.format.specs.Open.{openRefusal}
 use Rattle.format.proofs.Passes.{opens-passes}
 use Rattle.format.proofs.Openings.{cells-numbers}
 use Rattle.walking.proofs.Decoded.{seen-opens, seen-closes, seen-neither, nested, places-most}
-use Rattle.surveying.specs.Passing.{Lists, bottom, stackRoom, Begun, above, partner, Passable, Passes}
+use Rattle.surveying.specs.Passing.{Lists, bottom, stackRoom, Ones, Begun, above, partner, Passable, Passes}
 use Rattle.surveying.proofs.Stacks.{Stacked, stacked-start, stacked-number, stacked-inner, stacked-aside, stacked-stays, stacked-passes}
 use Rattle.surveying.proofs.Pairs.{Paired, paired-start, paired-opens, paired-closes}
 
 -- ---- the code
-module _ (x v p : ℕ) (ts rs os ls ms : List ℕ) where
-  pub entry-room : Passable x v p (record { top = ts; reached = rs; opened = os; labels = ls; mates = ms })
+module _ (x v p : ℕ) (ts ns rs os ls ms : List ℕ) where
+  pub entry-room : Passable x v p (record { top = ts; number = ns; reached = rs; opened = os; labels = ls; mates = ms })
       → getD ts x 0 + 1 - v < length (set os (getD ts x 0 + 1) p)
   entry-room P = omega (arith, P .opened, length-set os (getD ts x 0 + 1) p)
 
-  pub label-room : Passable x v p (record { top = ts; reached = rs; opened = os; labels = ls; mates = ms })
+  pub label-room : Passable x v p (record { top = ts; number = ns; reached = rs; opened = os; labels = ls; mates = ms })
       → getD ts x 0 + 1 - v - v < length (set ls (getD ts x 0 + 1) (getD rs x 0 + 1))
   label-room P = omega (arith, P .labelled, length-set ls (getD ts x 0 + 1) (getD rs x 0 + 1))
 
   pub passes-is : (q : ℕ) → q ≡ getD (set os (getD ts x 0 + 1) p) (getD ts x 0 + 1 - v) 0
-      → Passes x v p (record { top = ts; reached = rs; opened = os; labels = ls; mates = ms })
+      → Passes x v p (record { top = ts; number = ns; reached = rs; opened = os; labels = ls; mates = ms })
       (record {
         top = set ts x (getD ts x 0 + 1 - v - v);
+        number = set ns x (getD (set ls (getD ts x 0 + 1) (getD rs x 0 + 1)) (getD ts x 0 + 1 - v - v) 0);
         reached = set rs x (getD rs x 0 + 1 - v);
         opened = set os (getD ts x 0 + 1) p;
         labels = set ls (getD ts x 0 + 1) (getD rs x 0 + 1);
         mates = set (set ms q p) p q;
       })
-      (getD (set ls (getD ts x 0 + 1) (getD rs x 0 + 1)) (getD ts x 0 + 1 - v - v) 0)
-  passes-is q h = rw h (record { top = refl; reached = refl; opened = refl; labels = refl; mates = refl; label = refl })
+  passes-is q h = rw h (record { top = refl; number = refl; reached = refl; opened = refl; labels = refl; mates = refl })
 
 pub begun-is : (z : Size) (e : ℕ) (ms : List ℕ) → e ≡ areasOf z → mostEnds ≤ length ms
-    → Begun z (record { top = 0 ∷ (e + 1) ∷ []; reached = replicate 2 1; opened = replicate 2052 0; labels = replicate 2052 1; mates = ms })
+    → Begun z
+    (record {
+      top = 0 ∷ (e + 1) ∷ [];
+      number = replicate 2 1;
+      reached = replicate 2 1;
+      opened = replicate 2052 0;
+      labels = replicate 2052 1;
+      mates = ms;
+    })
 begun-is z e ms h long =
+    let ones : Ones (replicate 2 1) = record { long = omega arith; zero = refl; one = refl } in
     record {
       top-long = omega arith;
       top-square = refl;
       top-round = ap (λ x. x + 1) h;
-      reached-long = omega arith;
-      reached-square = refl;
-      reached-round = refl;
+      number = ones;
+      reached = ones;
       opened-long = omega (arith, length-replicate {A = ℕ} 2052 0);
       labels-long = omega (arith, length-replicate {A = ℕ} 2052 1);
       labels = λ i l. getD-replicate 2052 i 1 0 l;
@@ -76,10 +84,12 @@ begun-is z e ms h long =
 -- ---- in the word of a map
 pub record Known (s old : List ℕ) (p : ℕ) (l : Lists) : Type 0 where
   pub top-long : 2 ≤ length (l .top)
+  pub number-long : 2 ≤ length (l .number)
   pub reached-long : 2 ≤ length (l .reached)
   pub opened-long : stackRoom ≤ length (l .opened)
   pub labels-long : stackRoom ≤ length (l .labels)
   pub stacked : (K : Family) → Stacked K (wordIn s) (bottom K (sizeIn s)) p (getD (l .top) (familyBit K) 0) (getD (l .reached) (familyBit K) 0) (l .opened) (l .labels)
+  pub numbered : (K : Family) → getD (l .number) (familyBit K) 0 ≡ number (seen K (wordIn s)) p
   pub mates : Paired (wordIn s) old p (l .mates)
 
 pub bit-two : (K : Family) → familyBit K < 2
@@ -116,27 +126,29 @@ module _ (s : List ℕ) (o : openRefusal s ≡ 0) where
   in-room round d h = omega (arith, opens-passes s o .m-most, opens-passes s o .n-most)
   in-room square d h = omega (arith, opens-passes s o .m-most, opens-passes s o .n-least)
 
+  ones : (K : Family) (l : List ℕ) → Ones l → getD l (familyBit K) 0 ≡ 1
+  ones round l T = T .one
+  ones square l T = T .zero
+
   pub known-start : (l : Lists) → Begun (sizeIn s) l → Known s (l .mates) 0 l
   unfolding wordIn
   known-start l B =
       record {
         top-long = B .top-long;
-        reached-long = B .reached-long;
+        number-long = B .number .long;
+        reached-long = B .reached .long;
         opened-long = B .opened-long;
         labels-long = B .labels-long;
         stacked = λ K.
-            stacked-start K (wordIn s) (bottom K (sizeIn s)) (getD (l .top) (familyBit K) 0) (getD (l .reached) (familyBit K) 0) (l .opened) (l .labels) (top K) (reached K)
+            stacked-start K (wordIn s) (bottom K (sizeIn s)) (getD (l .top) (familyBit K) 0) (getD (l .reached) (familyBit K) 0) (l .opened) (l .labels) (top K) (ones K (l .reached) (B .reached))
             (B .labels (bottom K (sizeIn s)) (let f = few-open K 0 (omega arith) in omega (arith, in-room K 0 (omega arith))));
+        numbered = λ K. ones K (l .number) (B .number) ∙ sym (number-zero (seen K (wordIn s)));
         mates = paired-start (wordIn s) (l .mates) (omega (arith, places-most s o, B .mates-long));
       }
     where
       top : (K : Family) → getD (l .top) (familyBit K) 0 ≡ bottom K (sizeIn s)
       top round = B .top-round
       top square = B .top-square
-
-      reached : (K : Family) → getD (l .reached) (familyBit K) 0 ≡ 1
-      reached round = B .reached-round
-      reached square = B .reached-square
 
   module _ (old : List ℕ) (p : ℕ) (l : Lists) (N : Known s old p l) where
     deep-few : (K : Family) → p ≤ bitsA (sizeIn s) → N .stacked K .deep < cells K (sizeIn s)
@@ -219,34 +231,63 @@ module _ (s : List ℕ) (o : openRefusal s ≡ 0) where
           apart K X (sizeIn s) (N .stacked K .deep) c d (deep-few K (omega arith)) (omega (arith, deep-few X (omega arith))) (omega (arith, N .stacked K .ends))))
           (seen-neither s X p (λ e. d (sym e ∙ own)))
 
-      pub known-more : (k : Lists) (y : ℕ) → Passes (familyBit K) v p l k y → Known s old (p + 1) k
-      unfolding wordIn
-      known-more k y T =
+      -- in each family, where its stack ends after the bracket; and the number there, by the label or, in the other family, as it was
+      after : (X : Family) → Stacked X (wordIn s) (bottom X (sizeIn s)) (p + 1) (getD (set (l .top) (familyBit K) (t + 1 - v - v)) (familyBit X) 0)
+          (getD (set (l .reached) (familyBit K) (r + 1 - v)) (familyBit X) 0) (set (l .opened) (t + 1) p) (set (l .labels) (t + 1) (r + 1))
+      after X =
           let x : ℕ = familyBit K in
           let b2 = bit-two K in
-          rw (T .top, T .reached, T .opened, T .labels, T .mates)
+          elim (told K X) [
+            | inl e ↦
+                rw (
+                  e,
+                  getD-set-same (l .top) x (t + 1 - v - v) 0 (omega (arith, N .top-long)),
+                  getD-set-same (l .reached) x (r + 1 - v) 0 (omega (arith, N .reached-long)),
+                )
+                (stacked-passes K (wordIn s) (bottom K (sizeIn s)) p t r (l .opened) (l .labels) (N .stacked K) v one opened-room labels-room opens-here closes-here
+                (nested s K o .closing p i))
+            | inr d ↦
+                rw (
+                  getD-set-other (l .top) x (familyBit X) (t + 1 - v - v) 0 d,
+                  getD-set-other (l .reached) x (familyBit X) (r + 1 - v) 0 d,
+                )
+                (other-stays X d)
+          ]
+
+      number-after : (X : Family)
+          → getD (set (l .number) (familyBit K) (getD (set (l .labels) (t + 1) (r + 1)) (t + 1 - v - v) 0)) (familyBit X) 0 ≡ number (seen X (wordIn s)) (p + 1)
+      number-after X =
+          let x : ℕ = familyBit K in
+          let b2 = bit-two K in
+          let b = seen X (wordIn s) in
+          let ls : List ℕ = set (l .labels) (t + 1) (r + 1) in
+          let y : ℕ = getD ls (t + 1 - v - v) 0 in
+          elim (told K X) [
+            | inl e ↦
+                ap (λ Y. getD (set (l .number) x y) (familyBit Y) 0) e ∙ getD-set-same (l .number) x y 0 (omega (arith, N .number-long))
+                ∙ ap (λ k. getD ls k 0)
+                (sym (ap (λ Y. getD (set (l .top) x (t + 1 - v - v)) (familyBit Y) 0) e ∙ getD-set-same (l .top) x (t + 1 - v - v) 0 (omega (arith, N .top-long))))
+                ∙ stacked-number X (wordIn s) (bottom X (sizeIn s)) (p + 1) (getD (set (l .top) x (t + 1 - v - v)) (familyBit X) 0)
+                (getD (set (l .reached) x (r + 1 - v)) (familyBit X) 0) (set (l .opened) (t + 1) p) ls (after X)
+            | inr d ↦
+                getD-set-other (l .number) x (familyBit X) y 0 d ∙ N .numbered X
+                ∙ sym (inner-number b (p + 1) p (inner-neither b p (seen-neither s X p (λ e. d (sym e ∙ own)))))
+          ]
+
+      pub known-more : (k : Lists) → Passes (familyBit K) v p l k → Known s old (p + 1) k
+      unfolding wordIn
+      known-more k T =
+          let x : ℕ = familyBit K in
+          let b2 = bit-two K in
+          rw (T .top, T .number, T .reached, T .opened, T .labels, T .mates)
           (record {
             top-long = omega (arith, length-set (l .top) x (t + 1 - v - v), N .top-long);
+            number-long = omega (arith, length-set (l .number) x (getD (set (l .labels) (t + 1) (r + 1)) (t + 1 - v - v) 0), N .number-long);
             reached-long = omega (arith, length-set (l .reached) x (r + 1 - v), N .reached-long);
             opened-long = omega (arith, length-set (l .opened) (t + 1) p, N .opened-long);
             labels-long = omega (arith, length-set (l .labels) (t + 1) (r + 1), N .labels-long);
-            stacked = λ X.
-                elim (told K X) [
-                  | inl e ↦
-                      rw (
-                        e,
-                        getD-set-same (l .top) x (t + 1 - v - v) 0 (omega (arith, N .top-long)),
-                        getD-set-same (l .reached) x (r + 1 - v) 0 (omega (arith, N .reached-long)),
-                      )
-                      (stacked-passes K (wordIn s) (bottom K (sizeIn s)) p t r (l .opened) (l .labels) (N .stacked K) v one opened-room labels-room opens-here closes-here
-                      (nested s K o .closing p i))
-                  | inr d ↦
-                      rw (
-                        getD-set-other (l .top) x (familyBit X) (t + 1 - v - v) 0 d,
-                        getD-set-other (l .reached) x (familyBit X) (r + 1 - v) 0 d,
-                      )
-                      (other-stays X d)
-                ];
+            stacked = after;
+            numbered = number-after;
             mates =
                 elim (same-or-not v 0) [
                   | inl z ↦
@@ -255,12 +296,3 @@ module _ (s : List ℕ) (o : openRefusal s ≡ 0) where
                       paired-closes (wordIn s) old (λ X. nested s X o) K p i (l .mates) (N .mates) (partner (familyBit K) v p l) (closes-here n) (partner-closes n)
                 ];
           })
-
-      pub known-label : (k : Lists) (y : ℕ) → Passes (familyBit K) v p l k y → y ≡ number (seen K (wordIn s)) (p + 1)
-      known-label k y T =
-          let x : ℕ = familyBit K in
-          let b2 = bit-two K in
-          T .label
-          ∙ ap (λ i. getD (k .labels) i 0)
-          (sym (ap (λ ts. getD ts x 0) (T .top) ∙ getD-set-same (l .top) x (t + 1 - v - v) 0 (omega (arith, N .top-long))))
-          ∙ stacked-number K (wordIn s) (bottom K (sizeIn s)) (p + 1) (getD (k .top) x 0) (getD (k .reached) x 0) (k .opened) (k .labels) (known-more k y T .stacked K)

@@ -8,7 +8,7 @@
 -- surveying-passable, surveying-more == the bracket at p can be passed, and is
 -- Assumes nothing.
 use mathlib.Core.Path.{_≡_, refl, sym, ap, _∙_}
-use mathlib.Core.Logic.{_≢_, ⊎-elim, inl, inr}
+use mathlib.Core.Logic.{inl, inr}
 use mathlib.Core.List.{List}
 use Prim.Native.Nat.{ℕ, _+_, _*_, _<_, _≤_}
 use native.Mathlib.Omega.{arith}
@@ -18,49 +18,42 @@ use Rattle.words.specs.Brackets.{number}
 use Rattle.words.specs.declared.family.Family.{Family}
 use Rattle.words.specs.declared.family.Family.the-variants.{Round as round, Square as square}
 use Rattle.words.specs.Word.{seen}
-use Rattle.words.proofs.Stack.{inner-neither}
-use Rattle.words.proofs.Numbers.{inner-number, number-zero}
 use Rattle.bits.specs.Strings.{bit}
 use Rattle.bits.proofs.Laws.{bit-below-2}
 use Rattle.drawing.specs.Laid.{laid}
 use Rattle.format.specs.Bytes.{sizeIn, bitsA, startB, partA, familyBit, wordIn}
 use Rattle.format.specs.Open.{openRefusal}
-use Rattle.walking.proofs.Decoded.{seen-neither, places-most, nested}
+use Rattle.walking.proofs.Decoded.{places-most, nested}
 use Rattle.surveying.specs.Passing.{Lists, Begun, Passable, Passes}
 use Rattle.surveying.specs.Surveyed.{matesIn, numbersIn, Mates, Numbers}
 use Rattle.surveying.proofs.Laws.{mates-are, numbers-are}
 use Rattle.surveying.proofs.Filled.{Filled, filled-start, filled-more, filled-end}
 use Rattle.surveying.proofs.Pairs.{Paired, paired-end}
-use Rattle.surveying.proofs.Passed.{Known, bit-two, told, known-start, known-passable, known-more, known-label}
+use Rattle.surveying.proofs.Passed.{Known, known-start, known-passable, known-more}
 use Rattle.surveying.proofs.Unread.{Unread, unread-start, unread-few, unread-more, unread-bit}
 
 abbrev pub Listed : Family → List ℕ → List ℕ → ℕ → List ℕ → Type 0
 Listed K s old p l = Filled (number (seen K (wordIn s))) (bitsA (sizeIn s)) old p l
 
-abbrev pub lists : List ℕ → List ℕ → List ℕ → List ℕ → List ℕ → Lists
-lists ts es os ls ms = record { top = ts; reached = es; opened = os; labels = ls; mates = ms }
-
-same-family : (K X : Family) → familyBit X ≡ familyBit K → X ≡ K
-same-family K X e = ⊎-elim (λ s. s) (λ d. absurd (d e)) (told K X)
+abbrev pub lists : List ℕ → List ℕ → List ℕ → List ℕ → List ℕ → List ℕ → Lists
+lists ts ns es os ls ms = record { top = ts; number = ns; reached = es; opened = os; labels = ls; mates = ms }
 
 module _ (s ms₀ rs₀ ps₀ a : List ℕ) (n : ℕ) where
-  pub record Surveying (ts es os ls us ms rs ps : List ℕ) (p pt ar : ℕ) : Type 0 where
+  pub record Surveying (ts ns es os ls us ms rs ps : List ℕ) (p : ℕ) : Type 0 where
     pub opens : openRefusal s ≡ 0
     pub a-is : a ≡ partA s
     pub size : n ≡ bitsA (sizeIn s)
     pub few : n ≤ 4096
     pub within : p ≤ n
-    pub known : Known s ms₀ p (lists ts es os ls ms)
+    pub known : Known s ms₀ p (lists ts ns es os ls ms)
     pub unread : Unread s p us
     pub areas : Listed square s rs₀ p rs
     pub points : Listed round s ps₀ p ps
-    pub point : pt ≡ number (seen round (wordIn s)) p
-    pub area : ar ≡ number (seen square (wordIn s)) p
 
-  pub surveying-start : (ts es os ls us : List ℕ) → openRefusal s ≡ 0 → Begun (sizeIn s) (lists ts es os ls ms₀) → getD us 0 0 ≡ 8 * startB square (sizeIn s)
+  pub surveying-start : (ts ns es os ls us : List ℕ) → openRefusal s ≡ 0 → Begun (sizeIn s) (lists ts ns es os ls ms₀) → getD us 0 0 ≡ 8 * startB square (sizeIn s)
       → getD us 1 0 ≡ 8 * startB round (sizeIn s) → 2 ≤ length us → 4096 ≤ length rs₀ → 4096 ≤ length ps₀ → a ≡ partA s → n ≡ bitsA (sizeIn s)
-      → Surveying ts es os ls us ms₀ rs₀ ps₀ 0 1 1
-  surveying-start ts es os ls us o B c b lu lr lp ha hn =
+      → Surveying ts ns es os ls us ms₀ rs₀ ps₀ 0
+  surveying-start ts ns es os ls us o B c b lu lr lp ha hn =
       let most = places-most s o in
       record {
         opens = o;
@@ -68,15 +61,13 @@ module _ (s ms₀ rs₀ ps₀ a : List ℕ) (n : ℕ) where
         size = hn;
         few = omega arith;
         within = omega arith;
-        known = known-start s o (lists ts es os ls ms₀) B;
+        known = known-start s o (lists ts ns es os ls ms₀) B;
         unread = unread-start s us lu c b;
         areas = filled-start (number (seen square (wordIn s))) (bitsA (sizeIn s)) rs₀ (omega arith);
         points = filled-start (number (seen round (wordIn s))) (bitsA (sizeIn s)) ps₀ (omega arith);
-        point = sym (number-zero (seen round (wordIn s)));
-        area = sym (number-zero (seen square (wordIn s)));
       }
 
-  module _ (ts es os ls us ms rs ps : List ℕ) (p pt ar : ℕ) (I : Surveying ts es os ls us ms rs ps p pt ar) where
+  module _ (ts ns es os ls us ms rs ps : List ℕ) (p : ℕ) (I : Surveying ts ns es os ls us ms rs ps p) where
     ended : n ≤ p → bitsA (sizeIn s) ≡ p
     ended l = omega (arith, I .size, I .within)
 
@@ -128,33 +119,22 @@ module _ (s ms₀ rs₀ ps₀ a : List ℕ) (n : ℕ) where
           rw e (unread-few s us p (I .unread) (I .opens) (in-map l) K (bit-here ∙ e))
 
       module _ (v : ℕ) (hv : v ≡ bit s (getD us x 0)) where
-        pub surveying-passable : Passable x v p (lists ts es os ls ms)
+        pub surveying-passable : Passable x v p (lists ts ns es os ls ms)
         surveying-passable =
             let K = family .0 in
             let e : x ≡ familyBit K = family .1 in
             let own : bit (partA s) p ≡ familyBit K = bit-here ∙ e in
             let h = unread-bit s us p (I .unread) (I .opens) (in-map l) K own v (hv ∙ ap (λ y. bit s (getD us y 0)) e) in
-            rw e (known-passable s (I .opens) ms₀ p (lists ts es os ls ms) (I .known) (in-map l) K own v h)
+            rw e (known-passable s (I .opens) ms₀ p (lists ts ns es os ls ms) (I .known) (in-map l) K own v h)
 
-        -- in the other family the number stays
-        other-number : (K : Family) → familyBit K ≢ x → number (seen K (wordIn s)) (p + 1) ≡ number (seen K (wordIn s)) p
-        other-number K d =
-            let b = seen K (wordIn s) in
-            inner-number b (p + 1) p (inner-neither b p (seen-neither s K p (λ e. d (sym e ∙ bit-here))))
-
-        pub surveying-more : (ts′ es′ os′ ls′ ms′ : List ℕ) (y pt′ ar′ : ℕ) → Passes x v p (lists ts es os ls ms) (lists ts′ es′ os′ ls′ ms′) y
-            → (x ≡ 0 → pt′ ≡ pt) × ((x ≡ 0 → ⊥) → pt′ ≡ y) → (x ≡ 0 → ar′ ≡ y) × ((x ≡ 0 → ⊥) → ar′ ≡ ar)
-            → Surveying ts′ es′ os′ ls′ (set us x (getD us x 0 + 1)) ms′ (set rs p ar) (set ps p pt) (p + 1) pt′ ar′
-        surveying-more ts′ es′ os′ ls′ ms′ y pt′ ar′ T hp ha =
+        pub surveying-more : (ts′ ns′ es′ os′ ls′ ms′ : List ℕ) → Passes x v p (lists ts ns es os ls ms) (lists ts′ ns′ es′ os′ ls′ ms′)
+            → Surveying ts′ ns′ es′ os′ ls′ (set us x (getD us x 0 + 1)) ms′ (set rs p (getD ns 0 0)) (set ps p (getD ns 1 0)) (p + 1)
+        surveying-more ts′ ns′ es′ os′ ls′ ms′ T =
             let K = family .0 in
             let e : x ≡ familyBit K = family .1 in
             let own : bit (partA s) p ≡ familyBit K = bit-here ∙ e in
             let here : p < bitsA (sizeIn s) = in-map l in
-            let h = unread-bit s us p (I .unread) (I .opens) here K own v (hv ∙ ap (λ z. bit s (getD us z 0)) e) in
-            let after : y ≡ number (seen K (wordIn s)) (p + 1)
-            = known-label s (I .opens) ms₀ p (lists ts es os ls ms) (I .known) here K own v h (lists ts′ es′ os′ ls′ ms′) y (rw e at T) in
-            let mine : (X : Family) → familyBit X ≡ x → y ≡ number (seen X (wordIn s)) (p + 1)
-            = λ X f. after ∙ ap (λ Y. number (seen Y (wordIn s)) (p + 1)) (sym (same-family K X (f ∙ e))) in
+            let h = unread-bit s us p (I .unread) (I .opens) here K own v (hv ∙ ap (λ y. bit s (getD us y 0)) e) in
             record {
               opens = I .opens;
               a-is = I .a-is;
@@ -162,18 +142,10 @@ module _ (s ms₀ rs₀ ps₀ a : List ℕ) (n : ℕ) where
               few = I .few;
               within = omega arith;
               known =
-                  known-more s (I .opens) ms₀ p (lists ts es os ls ms) (I .known) here K own v h (lists ts′ es′ os′ ls′ ms′) y (rw e at T);
+                  known-more s (I .opens) ms₀ p (lists ts ns es os ls ms) (I .known) here K own v h (lists ts′ ns′ es′ os′ ls′ ms′) (rw e at T);
               unread = rw e (unread-more s us p (I .unread) (I .opens) here K own);
-              areas = filled-more (number (seen square (wordIn s))) (bitsA (sizeIn s)) rs₀ p rs (I .areas) ar here (I .area);
-              points = filled-more (number (seen round (wordIn s))) (bitsA (sizeIn s)) ps₀ p ps (I .points) pt here (I .point);
-              point =
-                  elim (same-or-not x 0) [
-                    | inl z ↦ hp .0 z ∙ I .point ∙ sym (other-number round (λ d. omega arith))
-                    | inr m ↦ hp .1 m ∙ mine round (let two = bit-two K in omega arith)
-                  ];
-              area =
-                  elim (same-or-not x 0) [
-                    | inl z ↦ ha .0 z ∙ mine square (sym z)
-                    | inr m ↦ ha .1 m ∙ I .area ∙ sym (other-number square (λ d. m (sym d)))
-                  ];
+              areas =
+                  filled-more (number (seen square (wordIn s))) (bitsA (sizeIn s)) rs₀ p rs (I .areas) (getD ns 0 0) here (I .known .numbered square);
+              points =
+                  filled-more (number (seen round (wordIn s))) (bitsA (sizeIn s)) ps₀ p ps (I .points) (getD ns 1 0) here (I .known .numbered round);
             }

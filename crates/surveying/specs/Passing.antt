@@ -2,15 +2,17 @@
 --
 -- Lists           == what the pass knows and has written. The open brackets of each family stand in `opened` as a stack, the innermost
 --                    last; beside each, `labels` has the number of the point (area) that it opened, and 1 at the stack's bottom. At the
---                    bit of a family, `top` has where its stack ends, `reached` how many points (areas) there are so far. And the mates
+--                    bit of a family, `top` has where its stack ends, `number` the label there, which is the number of the point (area),
+--                    and `reached` how many there are so far. And the mates
 -- bottom K z      == where the stack of a family begins, in maps with m and n of z: that of the round brackets after that of the square
 --                    ones, which are fewer than the areas, and one entry that is never read
 -- stackRoom       == so many entries do for both stacks of every map
+-- Ones l          == l has 1 at both bits
 -- Begun z l       == so the lists are before the first position, with room for every map
 -- above, partner  == the first entry beyond the stack of x; what stands at the entry that a bracket with the bit v ends up at, once p is
 --                    put beyond the stack: p itself at an opening, the innermost open bracket at a closing
 -- Passable        == the bracket at p can be passed
--- Passes          == what is done, by the bit v that tells an opening (0) from a closing (1); k is the label where the stack then ends
+-- Passes          == what is done, by the bit v that tells an opening (0) from a closing (1)
 -- Assumes nothing.
 use mathlib.Core.Path.{_≡_}
 use mathlib.Core.List.{List}
@@ -23,6 +25,7 @@ use Rattle.format.specs.Bytes.{Size, areasOf}
 
 pub record Lists : Type 0 where
   pub top : List ℕ
+  pub number : List ℕ
   pub reached : List ℕ
   pub opened : List ℕ
   pub labels : List ℕ
@@ -35,13 +38,17 @@ bottom square z = 0
 abbrev pub stackRoom : ℕ
 stackRoom = 2052
 
+pub record Ones (l : List ℕ) : Type 0 where
+  pub long : 2 ≤ length l
+  pub zero : getD l 0 0 ≡ 1
+  pub one : getD l 1 0 ≡ 1
+
 pub record Begun (z : Size) (l : Lists) : Type 0 where
   pub top-long : 2 ≤ length (l .top)
   pub top-square : getD (l .top) 0 0 ≡ bottom square z
   pub top-round : getD (l .top) 1 0 ≡ bottom round z
-  pub reached-long : 2 ≤ length (l .reached)
-  pub reached-square : getD (l .reached) 0 0 ≡ 1
-  pub reached-round : getD (l .reached) 1 0 ≡ 1
+  pub number : Ones (l .number)
+  pub reached : Ones (l .reached)
   pub opened-long : stackRoom ≤ length (l .opened)
   pub labels-long : stackRoom ≤ length (l .labels)
   pub labels : (i : ℕ) → i < stackRoom → getD (l .labels) i 0 ≡ 1
@@ -65,10 +72,10 @@ pub record Passable (x v p : ℕ) (l : Lists) : Type 0 where
   pub labelled : above x l < length (l .labels)
   pub paired : partner x v p l < length (l .mates)
 
-pub record Passes (x v p : ℕ) (l r : Lists) (k : ℕ) : Type 0 where
+pub record Passes (x v p : ℕ) (l r : Lists) : Type 0 where
   pub top : r .top ≡ set (l .top) x (above x l - v - v)
+  pub number : r .number ≡ set (l .number) x (getD (r .labels) (above x l - v - v) 0)
   pub reached : r .reached ≡ set (l .reached) x (getD (l .reached) x 0 + 1 - v)
   pub opened : r .opened ≡ set (l .opened) (above x l) p
   pub labels : r .labels ≡ set (l .labels) (above x l) (getD (l .reached) x 0 + 1)
   pub mates : r .mates ≡ set (set (l .mates) (partner x v p l) p) p (partner x v p l)
-  pub label : k ≡ getD (r .labels) (above x l - v - v) 0

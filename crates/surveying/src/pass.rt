@@ -33,17 +33,19 @@ pub fn survey(
     ensures { λ _. ⌜ Mates (now (map .entry)) (now (mates .exit)) ⌝ }
     ensures { λ _. ⌜ Numbers square (now (map .entry)) (now (areas .exit)) × Numbers round (now (map .entry)) (now (points .exit)) ⌝ }
 {
-    let mut top = [0, layout::areas(map) + 1];
+    let round = layout::areas(map) + 1;
+    let mut top = [0, round];
+    let mut number = [1u16; 2];
     let mut reached = [1usize; 2];
     let mut opened = [0u16; 2052];
     let mut labels = [1u16; 2052];
-    let mut unread = [
-        8 * start_b(map, Family::Square),
-        8 * start_b(map, Family::Round),
-    ];
+    let next_round = 8 * start_b(map, Family::Round);
+    let next_square = 8 * start_b(map, Family::Square);
+    let mut unread = [next_square, next_round];
     fill(
         map,
         &mut top,
+        &mut number,
         &mut reached,
         &mut opened,
         &mut labels,
@@ -60,6 +62,7 @@ pub fn survey(
 fn fill(
     map: &[u8],
     top: &mut [usize; 2],
+    number: &mut [u16; 2],
     reached: &mut [usize; 2],
     opened: &mut [u16; 2052],
     labels: &mut [u16; 2052],
@@ -69,7 +72,7 @@ fn fill(
     points: &mut [u16],
 )
     requires { ⌜ (openRefusal (now map) ≡ 0)
-        × Begun (sizeIn (now map)) (record { top = now top; reached = now reached; opened = now opened; labels = now labels; mates = now mates })
+        × Begun (sizeIn (now map)) (record { top = now top; number = now number; reached = now reached; opened = now opened; labels = now labels; mates = now mates })
         × (getD (now unread) 0 0 ≡ 8 * startB square (sizeIn (now map))) × (getD (now unread) 1 0 ≡ 8 * startB round (sizeIn (now map)))
         × (2 ≤ length (now unread)) × (4096 ≤ length (now areas)) × (4096 ≤ length (now points)) ⌝ }
     ensures { λ _. ⌜ now (mates .exit) ≡ laid (matesIn (now (map .entry))) (now (mates .entry)) ⌝ }
@@ -80,46 +83,36 @@ fn fill(
 {
     let a = part_a(map);
     let n = bits_a(map);
-    let mut point = 1;
-    let mut area = 1;
     let mut p = 0;
     while p < n {
         let x = bits::bit(a, p);
         let v = bits::bit(map, unread[x]);
         unread[x] += 1;
-        points[p] = point;
-        areas[p] = area;
-        let k = passed(x, v, p, top, reached, opened, labels, mates);
-        point = chosen(x, k, point);
-        area = chosen(x, area, k);
+        points[p] = number[1];
+        areas[p] = number[0];
+        passed(x, v, p, top, number, reached, opened, labels, mates);
         p += 1;
     }
 }
 
-// One of two numbers: the first where x is 1, the second where it is 0.
-fn chosen(x: usize, first: u16, second: u16) -> u16
-    ensures { λ r. ⌜ (x ≡ 0 → r ≡ second) × ((x ≡ 0 → ⊥) → r ≡ first) ⌝ }
-{
-    if x == 0 { second } else { first }
-}
-
 // Passes the bracket at position p, of the family with the bit x: it opens where v is 0. An opening is put on the stack of its
-// family with the number of the point (area) that it reaches. A closing takes the innermost open bracket off: they are mates. Answers
-// the number of the point (area) after it.
+// family with the number of the point (area) that it reaches. A closing takes the innermost open bracket off: they are mates.
 fn passed(
     x: usize,
     v: usize,
     p: usize,
     top: &mut [usize; 2],
+    number: &mut [u16; 2],
     reached: &mut [usize; 2],
     opened: &mut [u16],
     labels: &mut [u16],
     mates: &mut [u16],
-) -> u16
-    requires { ⌜ Passable x v p (record { top = now top; reached = now reached; opened = now opened; labels = now labels; mates = now mates }) ⌝ }
-    ensures { λ k. ⌜ Passes x v p
+)
+    requires { ⌜ Passable x v p (record { top = now top; number = now number; reached = now reached; opened = now opened; labels = now labels; mates = now mates }) ⌝ }
+    ensures { λ _. ⌜ Passes x v p
         (record {
           top = now (top .entry);
+          number = now (number .entry);
           reached = now (reached .entry);
           opened = now (opened .entry);
           labels = now (labels .entry);
@@ -127,23 +120,23 @@ fn passed(
         })
         (record {
           top = now (top .exit);
+          number = now (number .exit);
           reached = now (reached .exit);
           opened = now (opened .exit);
           labels = now (labels .exit);
           mates = now (mates .exit);
-        })
-        k ⌝ }
+        }) ⌝ }
 {
     let t = top[x];
     let k = reached[x] + 1;
     let u = t + 1 - v;
     let end = u - v;
-    top[x] = end;
-    reached[x] = k - v;
     opened[t + 1] = p as u16;
     labels[t + 1] = k as u16;
     let q = wide(opened[u]);
+    number[x] = labels[end];
+    top[x] = end;
+    reached[x] = k - v;
     mates[q] = p as u16;
     mates[p] = q as u16;
-    labels[end]
 }

@@ -7,11 +7,11 @@ use Rattle.surveying.proofs.pass.fill.Statement.{statement}
 use Rattle.surveying.proofs.pass.fill.Tie as tie
 
 abbrev Inv-loop : tie.InvT-loop
-Inv-loop map top₀ reached₀ opened₀ labels₀ unread₀ mates₀ areas₀ points₀ a n point₀ area₀ p₀ top reached opened labels unread mates areas points point area p =
-    Surveying map mates₀ areas₀ points₀ a n top reached opened labels unread mates areas points p point area
+Inv-loop map top₀ number₀ reached₀ opened₀ labels₀ unread₀ mates₀ areas₀ points₀ a n p₀ top number reached opened labels unread mates areas points p =
+    Surveying map mates₀ areas₀ points₀ a n top number reached opened labels unread mates areas points p
 
 abbrev μ-loop : tie.MeasureT-loop
-μ-loop map top₀ reached₀ opened₀ labels₀ unread₀ mates₀ areas₀ points₀ a n point₀ area₀ p₀ top reached opened labels unread mates areas points point area p =
+μ-loop map top₀ number₀ reached₀ opened₀ labels₀ unread₀ mates₀ areas₀ points₀ a n p₀ top number reached opened labels unread mates areas points p =
     n - p
 
 part-a-requires : tie.Need-part-a-requires Inv-loop μ-loop
@@ -44,16 +44,22 @@ element-copy-out-unread c = search needs
 add-unread : tie.Need-add-unread Inv-loop μ-loop
 add-unread c =
     let bit = c .before .before .before in
-    record { fits = omega (arith, read-few _ _ _ _ _ _ _ _ _ _ _ _ _ _ _ _ _ (bit .before .before .loop .inv) _ (bit .before .loop-test .taken) (bit .bit .ensures .0)) }
+    record { fits = omega (arith, read-few _ _ _ _ _ _ _ _ _ _ _ _ _ _ _ _ (bit .before .before .loop .inv) _ (bit .before .loop-test .taken) (bit .bit .ensures .0)) }
 
 element-write-unread : tie.Need-element-write-unread Inv-loop μ-loop
 element-write-unread c = search needs
+
+element-copy-out-points : tie.Need-element-copy-out-points Inv-loop μ-loop
+element-copy-out-points c = search needs
 
 mul-points : tie.Need-mul-points Inv-loop μ-loop
 mul-points c = search needs
 
 slice-write-points : tie.Need-slice-write-points Inv-loop μ-loop
 slice-write-points c = search point-room
+
+element-copy-out-areas : tie.Need-element-copy-out-areas Inv-loop μ-loop
+element-copy-out-areas c = search needs
 
 mul-areas : tie.Need-mul-areas Inv-loop μ-loop
 mul-areas c = search needs
@@ -64,12 +70,6 @@ slice-write-areas c = search area-room
 passed-requires : tie.Need-passed-requires Inv-loop μ-loop
 passed-requires c κs = search surveying-passable
 
-chosen-requires : tie.Need-chosen-requires Inv-loop μ-loop
-chosen-requires c κs = search needs
-
-chosen-requires-2 : tie.Need-chosen-requires-2 Inv-loop μ-loop
-chosen-requires-2 c κs = search needs
-
 add-p : tie.Need-add-p Inv-loop μ-loop
 add-p c = search needs
 
@@ -77,12 +77,7 @@ loop-less : tie.Need-loop-less Inv-loop μ-loop
 loop-less c = search needs
 
 loop-again : tie.Need-loop-again Inv-loop μ-loop
-loop-again c =
-    let passed = c .before .before .before .before in
-    let read = passed .before .before .before .before .before .before .before in
-    let bit = read .before .before in
-    let now = bit .before in
-    surveying-more _ _ _ _ _ _ _ _ _ _ _ _ _ _ _ _ _ (now .before .loop .inv) _ (now .loop-test .taken) (bit .bit .ensures .0) _ (read .bit2 .ensures .0) _ _ _ _ _ _ _ _ (passed .passed .ensures) (c .before .chosen .ensures) (c .chosen2 .ensures)
+loop-again c = search surveying-more
 
 same-length : tie.Need-same-length Inv-loop μ-loop
 same-length c = search needs
@@ -113,13 +108,13 @@ fill-spec =
     element-copy-out-unread
     add-unread
     element-write-unread
+    element-copy-out-points
     mul-points
     slice-write-points
+    element-copy-out-areas
     mul-areas
     slice-write-areas
     passed-requires
-    chosen-requires
-    chosen-requires-2
     add-p
     loop-less
     loop-again

@@ -28,21 +28,6 @@ sub-u c = search needs
 sub-end : tie.Need-sub-end
 sub-end c = search needs
 
-mul-top : tie.Need-mul-top
-mul-top c = search needs
-
-element-write-top : tie.Need-element-write-top
-element-write-top c = search needs
-
-sub-reached : tie.Need-sub-reached
-sub-reached c = search needs
-
-mul-reached : tie.Need-mul-reached
-mul-reached c = search needs
-
-element-write-reached : tie.Need-element-write-reached
-element-write-reached c = search needs
-
 cast-opened : tie.Need-cast-opened
 cast-opened c = search needs
 
@@ -76,6 +61,33 @@ slice-read-wide c = search entry-room
 wide-requires : tie.Need-wide-requires
 wide-requires c κs = search needs
 
+mul-number : tie.Need-mul-number
+mul-number c = search needs
+
+slice-read-number : tie.Need-slice-read-number
+slice-read-number c = search label-room
+
+mul-number-2 : tie.Need-mul-number-2
+mul-number-2 c = search needs
+
+element-write-number : tie.Need-element-write-number
+element-write-number c = search needs
+
+mul-top : tie.Need-mul-top
+mul-top c = search needs
+
+element-write-top : tie.Need-element-write-top
+element-write-top c = search needs
+
+sub-reached : tie.Need-sub-reached
+sub-reached c = search needs
+
+mul-reached : tie.Need-mul-reached
+mul-reached c = search needs
+
+element-write-reached : tie.Need-element-write-reached
+element-write-reached c = search needs
+
 cast-mates : tie.Need-cast-mates
 cast-mates c = search needs
 
@@ -93,12 +105,6 @@ mul-mates-2 c = search needs
 
 slice-write-mates-2 : tie.Need-slice-write-mates-2
 slice-write-mates-2 c = search needs
-
-mul-result : tie.Need-mul-result
-mul-result c = search needs
-
-slice-read-result : tie.Need-slice-read-result
-slice-read-result c = search label-room
 
 same-length : tie.Need-same-length
 same-length c = search needs
@@ -124,11 +130,6 @@ passed-spec =
     add-u
     sub-u
     sub-end
-    mul-top
-    element-write-top
-    sub-reached
-    mul-reached
-    element-write-reached
     cast-opened
     add-opened
     mul-opened
@@ -140,14 +141,21 @@ passed-spec =
     mul-wide
     slice-read-wide
     wide-requires
+    mul-number
+    slice-read-number
+    mul-number-2
+    element-write-number
+    mul-top
+    element-write-top
+    sub-reached
+    mul-reached
+    element-write-reached
     cast-mates
     mul-mates
     slice-write-mates
     cast-mates-2
     mul-mates-2
     slice-write-mates-2
-    mul-result
-    slice-read-result
     same-length
     same-length-2
     same-length-3

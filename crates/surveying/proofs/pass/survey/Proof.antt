@@ -7,20 +7,20 @@ use Rattle.surveying.proofs.pass.survey.Tie as tie
 areas-requires : tie.Need-areas-requires
 areas-requires c κs = search needs
 
-add-t11 : tie.Need-add-t11
-add-t11 c = search needs
+add-round : tie.Need-add-round
+add-round c = search needs
 
 start-b-requires : tie.Need-start-b-requires
 start-b-requires c κs = search needs
 
-mul-t11 : tie.Need-mul-t11
-mul-t11 c = search needs
+mul-next-round : tie.Need-mul-next-round
+mul-next-round c = search needs
 
 start-b-requires-2 : tie.Need-start-b-requires-2
 start-b-requires-2 c κs = search needs
 
-mul-t15 : tie.Need-mul-t15
-mul-t15 c = search needs
+mul-next-square : tie.Need-mul-next-square
+mul-next-square c = search needs
 
 fill-requires : tie.Need-fill-requires
 fill-requires c κs =
@@ -34,10 +34,10 @@ survey-spec =
     tie.close
     (tie.spec
     areas-requires
-    add-t11
+    add-round
     start-b-requires
-    mul-t11
+    mul-next-round
     start-b-requires-2
-    mul-t15
+    mul-next-square
     fill-requires
     returns)
