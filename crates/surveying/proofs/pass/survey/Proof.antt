@@ -1,4 +1,5 @@
 -- `surveying::pass::survey` meets its contract. Assumes nothing.
+use native.Mathlib.Omega.{arith}
 use Rattle.surveying.proofs.Passed.{begun-is}
 use borrow.Author.Needs.{needs}
 use Rattle.surveying.proofs.pass.survey.Statement.{statement}
@@ -24,7 +25,7 @@ mul-next-square c = search needs
 
 fill-requires : tie.Need-fill-requires
 fill-requires c κs =
-    (search needs, begun-is _ _ _ (search needs) (search needs), search needs, search needs, search needs, search needs, search needs)
+    (search needs, begun-is _ _ _ (omega arith) (search needs), search needs, search needs, search needs, search needs, search needs)
 
 returns : tie.Need-returns
 returns c = search needs
