@@ -38,19 +38,19 @@ use Rattle.surveying.proofs.Pairs.{Paired, paired-start, paired-opens, 
 -- ---- the code
 module _ (x v p : ℕ) (ts ns rs os ls ms : List ℕ) where
   pub entry-room : Passable x v p (record { top = ts; number = ns; reached = rs; opened = os; labels = ls; mates = ms })
-      → getD ts x 0 + (1 - v) < length (set os (getD ts x 0 + 1) p)
+      → getD ts x 0 + 1 - v < length (set os (getD ts x 0 + 1) p)
   entry-room P = omega (arith, P .opened, length-set os (getD ts x 0 + 1) p)
 
   pub label-room : Passable x v p (record { top = ts; number = ns; reached = rs; opened = os; labels = ls; mates = ms })
-      → getD ts x 0 + (1 - v) - v < length (set ls (getD ts x 0 + 1) (getD rs x 0 + 1))
+      → getD ts x 0 + 1 - v - v < length (set ls (getD ts x 0 + 1) (getD rs x 0 + 1))
   label-room P = omega (arith, P .labelled, length-set ls (getD ts x 0 + 1) (getD rs x 0 + 1))
 
-  pub passes-is : (q : ℕ) → q ≡ getD (set os (getD ts x 0 + 1) p) (getD ts x 0 + (1 - v)) 0
+  pub passes-is : (q : ℕ) → q ≡ getD (set os (getD ts x 0 + 1) p) (getD ts x 0 + 1 - v) 0
       → Passes x v p (record { top = ts; number = ns; reached = rs; opened = os; labels = ls; mates = ms })
       (record {
-        top = set ts x (getD ts x 0 + (1 - v) - v);
-        number = set ns x (getD (set ls (getD ts x 0 + 1) (getD rs x 0 + 1)) (getD ts x 0 + (1 - v) - v) 0);
-        reached = set rs x (getD rs x 0 + (1 - v));
+        top = set ts x (getD ts x 0 + 1 - v - v);
+        number = set ns x (getD (set ls (getD ts x 0 + 1) (getD rs x 0 + 1)) (getD ts x 0 + 1 - v - v) 0);
+        reached = set rs x (getD rs x 0 + 1 - v);
         opened = set os (getD ts x 0 + 1) p;
         labels = set ls (getD ts x 0 + 1) (getD rs x 0 + 1);
         mates = set (set ms q p) p q;
@@ -232,8 +232,8 @@ module _ (s : List ℕ) (o : openRefusal s ≡ 0) where
           (seen-neither s X p (λ e. d (sym e ∙ own)))
 
       -- in each family, where its stack ends after the bracket; and the number there, by the label or, in the other family, as it was
-      after : (X : Family) → Stacked X (wordIn s) (bottom X (sizeIn s)) (p + 1) (getD (set (l .top) (familyBit K) (t + (1 - v) - v)) (familyBit X) 0)
-          (getD (set (l .reached) (familyBit K) (r + (1 - v))) (familyBit X) 0) (set (l .opened) (t + 1) p) (set (l .labels) (t + 1) (r + 1))
+      after : (X : Family) → Stacked X (wordIn s) (bottom X (sizeIn s)) (p + 1) (getD (set (l .top) (familyBit K) (t + 1 - v - v)) (familyBit X) 0)
+          (getD (set (l .reached) (familyBit K) (r + 1 - v)) (familyBit X) 0) (set (l .opened) (t + 1) p) (set (l .labels) (t + 1) (r + 1))
       after X =
           let x : ℕ = familyBit K in
           let b2 = bit-two K in
@@ -241,34 +241,34 @@ module _ (s : List ℕ) (o : openRefusal s ≡ 0) where
             | inl e ↦
                 rw (
                   e,
-                  getD-set-same (l .top) x (t + (1 - v) - v) 0 (omega (arith, N .top-long)),
-                  getD-set-same (l .reached) x (r + (1 - v)) 0 (omega (arith, N .reached-long)),
+                  getD-set-same (l .top) x (t + 1 - v - v) 0 (omega (arith, N .top-long)),
+                  getD-set-same (l .reached) x (r + 1 - v) 0 (omega (arith, N .reached-long)),
                 )
                 (stacked-passes K (wordIn s) (bottom K (sizeIn s)) p t r (l .opened) (l .labels) (N .stacked K) v one opened-room labels-room opens-here closes-here
                 (nested s K o .closing p i))
             | inr d ↦
                 rw (
-                  getD-set-other (l .top) x (familyBit X) (t + (1 - v) - v) 0 d,
-                  getD-set-other (l .reached) x (familyBit X) (r + (1 - v)) 0 d,
+                  getD-set-other (l .top) x (familyBit X) (t + 1 - v - v) 0 d,
+                  getD-set-other (l .reached) x (familyBit X) (r + 1 - v) 0 d,
                 )
                 (other-stays X d)
           ]
 
       number-after : (X : Family)
-          → getD (set (l .number) (familyBit K) (getD (set (l .labels) (t + 1) (r + 1)) (t + (1 - v) - v) 0)) (familyBit X) 0 ≡ number (seen X (wordIn s)) (p + 1)
+          → getD (set (l .number) (familyBit K) (getD (set (l .labels) (t + 1) (r + 1)) (t + 1 - v - v) 0)) (familyBit X) 0 ≡ number (seen X (wordIn s)) (p + 1)
       number-after X =
           let x : ℕ = familyBit K in
           let b2 = bit-two K in
           let b = seen X (wordIn s) in
           let ls : List ℕ = set (l .labels) (t + 1) (r + 1) in
-          let y : ℕ = getD ls (t + (1 - v) - v) 0 in
+          let y : ℕ = getD ls (t + 1 - v - v) 0 in
           elim (told K X) [
             | inl e ↦
                 ap (λ Y. getD (set (l .number) x y) (familyBit Y) 0) e ∙ getD-set-same (l .number) x y 0 (omega (arith, N .number-long))
                 ∙ ap (λ k. getD ls k 0)
-                (sym (ap (λ Y. getD (set (l .top) x (t + (1 - v) - v)) (familyBit Y) 0) e ∙ getD-set-same (l .top) x (t + (1 - v) - v) 0 (omega (arith, N .top-long))))
-                ∙ stacked-number X (wordIn s) (bottom X (sizeIn s)) (p + 1) (getD (set (l .top) x (t + (1 - v) - v)) (familyBit X) 0)
-                (getD (set (l .reached) x (r + (1 - v))) (familyBit X) 0) (set (l .opened) (t + 1) p) ls (after X)
+                (sym (ap (λ Y. getD (set (l .top) x (t + 1 - v - v)) (familyBit Y) 0) e ∙ getD-set-same (l .top) x (t + 1 - v - v) 0 (omega (arith, N .top-long))))
+                ∙ stacked-number X (wordIn s) (bottom X (sizeIn s)) (p + 1) (getD (set (l .top) x (t + 1 - v - v)) (familyBit X) 0)
+                (getD (set (l .reached) x (r + 1 - v)) (familyBit X) 0) (set (l .opened) (t + 1) p) ls (after X)
             | inr d ↦
                 getD-set-other (l .number) x (familyBit X) y 0 d ∙ N .numbered X
                 ∙ sym (inner-number b (p + 1) p (inner-neither b p (seen-neither s X p (λ e. d (sym e ∙ own)))))
@@ -281,9 +281,9 @@ module _ (s : List ℕ) (o : openRefusal s ≡ 0) where
           let b2 = bit-two K in
           rw (T .top, T .number, T .reached, T .opened, T .labels, T .mates)
           (record {
-            top-long = omega (arith, length-set (l .top) x (t + (1 - v) - v), N .top-long);
-            number-long = omega (arith, length-set (l .number) x (getD (set (l .labels) (t + 1) (r + 1)) (t + (1 - v) - v) 0), N .number-long);
-            reached-long = omega (arith, length-set (l .reached) x (r + (1 - v)), N .reached-long);
+            top-long = omega (arith, length-set (l .top) x (t + 1 - v - v), N .top-long);
+            number-long = omega (arith, length-set (l .number) x (getD (set (l .labels) (t + 1) (r + 1)) (t + 1 - v - v) 0), N .number-long);
+            reached-long = omega (arith, length-set (l .reached) x (r + 1 - v), N .reached-long);
             opened-long = omega (arith, length-set (l .opened) (t + 1) p, N .opened-long);
             labels-long = omega (arith, length-set (l .labels) (t + 1) (r + 1), N .labels-long);
             stacked = after;

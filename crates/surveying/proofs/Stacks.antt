@@ -180,16 +180,16 @@ module _ (K : Family) (w : Word) (a : ℕ) where
 
   module _ (p t r : ℕ) (os ls : List ℕ) (S : Stacked K w a p t r os ls) (v : ℕ) (one : v < 2) where
     pub stacked-passes : t + 1 < length os → t + 1 < length ls → (v ≡ 0 → seen K w p ≡ opens) → ((v ≡ 0 → ⊥) → seen K w p ≡ closes)
-        → (seen K w p ≡ closes → inner (seen K w) p ≢ 0) → Stacked K w a (p + 1) (t + (1 - v) - v) (r + (1 - v)) (set os (t + 1) p) (set ls (t + 1) (r + 1))
+        → (seen K w p ≡ closes → inner (seen K w) p ≢ 0) → Stacked K w a (p + 1) (t + 1 - v - v) (r + 1 - v) (set os (t + 1) p) (set ls (t + 1) (r + 1))
     stacked-passes lo ll o c n =
         let os′ = set os (t + 1) p in
         let ls′ = set ls (t + 1) (r + 1) in
         let S′ : Stacked K w a p t r os′ ls′ = stacked-aside p t r os ls S (t + 1) p (r + 1) (λ d l e. omega (arith, S .ends)) in
         elim (same-or-not v 0) [
           | inl z ↦
-              stacked-opens p t r os′ ls′ S′ (t + (1 - v) - v) (r + (1 - v)) (omega arith) (omega arith) (o z)
+              stacked-opens p t r os′ ls′ S′ (t + 1 - v - v) (r + 1 - v) (omega arith) (omega arith) (o z)
               (getD-set-same os (t + 1) p 0 lo) (getD-set-same ls (t + 1) (r + 1) 0 ll)
           | inr m ↦
               let open-before = stacked-inner p t r os ls S (n (c m)) in
-              stacked-closes p t r os′ ls′ S′ (t + (1 - v) - v) (r + (1 - v)) (omega (arith, open-before .0)) (omega arith) (c m) (n (c m))
+              stacked-closes p t r os′ ls′ S′ (t + 1 - v - v) (r + 1 - v) (omega (arith, open-before .0)) (omega arith) (c m) (n (c m))
         ]

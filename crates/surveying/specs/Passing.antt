@@ -9,8 +9,8 @@
 -- stackRoom       == so many entries do for both stacks of every map
 -- Ones l          == l has 1 at both bits
 -- Begun z l       == so the lists are before the first position, with room for every map
--- above, met      == the first entry beyond the stack of x; that one where the bit v says that a bracket opens, else the stack's last
--- partner         == what stands there once p is put beyond the stack: p itself at an opening, the innermost open bracket at a closing
+-- above, partner  == the first entry beyond the stack of x; what stands at the entry that a bracket with the bit v ends up at, once p is
+--                    put beyond the stack: p itself at an opening, the innermost open bracket at a closing
 -- Passable        == the bracket at p can be passed
 -- Passes          == what is done, by the bit v that tells an opening (0) from a closing (1)
 -- Assumes nothing.
@@ -57,11 +57,8 @@ pub record Begun (z : Size) (l : Lists) : Type 0 where
 abbrev pub above : ℕ → Lists → ℕ
 above x l = getD (l .top) x 0 + 1
 
-abbrev pub met : ℕ → ℕ → Lists → ℕ
-met x v l = getD (l .top) x 0 + (1 - v)
-
 abbrev pub partner : ℕ → ℕ → ℕ → Lists → ℕ
-partner x v p l = getD (set (l .opened) (above x l) p) (met x v l) 0
+partner x v p l = getD (set (l .opened) (above x l) p) (above x l - v) 0
 
 pub record Passable (x v p : ℕ) (l : Lists) : Type 0 where
   pub bit : x < 2
@@ -76,9 +73,9 @@ pub record Passable (x v p : ℕ) (l : Lists) : Type 0 where
   pub paired : partner x v p l < length (l .mates)
 
 pub record Passes (x v p : ℕ) (l r : Lists) : Type 0 where
-  pub top : r .top ≡ set (l .top) x (met x v l - v)
-  pub number : r .number ≡ set (l .number) x (getD (r .labels) (met x v l - v) 0)
-  pub reached : r .reached ≡ set (l .reached) x (getD (l .reached) x 0 + (1 - v))
+  pub top : r .top ≡ set (l .top) x (above x l - v - v)
+  pub number : r .number ≡ set (l .number) x (getD (r .labels) (above x l - v - v) 0)
+  pub reached : r .reached ≡ set (l .reached) x (getD (l .reached) x 0 + 1 - v)
   pub opened : r .opened ≡ set (l .opened) (above x l) p
   pub labels : r .labels ≡ set (l .labels) (above x l) (getD (l .reached) x 0 + 1)
   pub mates : r .mates ≡ set (set (l .mates) (partner x v p l) p) p (partner x v p l)

@@ -128,16 +128,15 @@ fn passed(
         }) ⌝ }
 {
     let t = top[x];
-    let k = reached[x];
-    let opens = 1 - v;
-    let u = t + opens;
+    let k = reached[x] + 1;
+    let u = t + 1 - v;
     let end = u - v;
-    top[x] = end;
-    reached[x] = k + opens;
     opened[t + 1] = p as u16;
-    labels[t + 1] = (k + 1) as u16;
+    labels[t + 1] = k as u16;
     let q = wide(opened[u]);
     number[x] = labels[end];
+    top[x] = end;
+    reached[x] = k - v;
     mates[q] = p as u16;
     mates[p] = q as u16;
 }

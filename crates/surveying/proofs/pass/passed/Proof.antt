@@ -16,29 +16,17 @@ mul-k c = search needs
 element-copy-out-k : tie.Need-element-copy-out-k
 element-copy-out-k c = search needs
 
-sub-opens : tie.Need-sub-opens
-sub-opens c = search needs
+add-k : tie.Need-add-k
+add-k c = search needs
 
 add-u : tie.Need-add-u
 add-u c = search needs
 
+sub-u : tie.Need-sub-u
+sub-u c = search needs
+
 sub-end : tie.Need-sub-end
 sub-end c = search needs
-
-mul-top : tie.Need-mul-top
-mul-top c = search needs
-
-element-write-top : tie.Need-element-write-top
-element-write-top c = search needs
-
-add-reached : tie.Need-add-reached
-add-reached c = search needs
-
-mul-reached : tie.Need-mul-reached
-mul-reached c = search needs
-
-element-write-reached : tie.Need-element-write-reached
-element-write-reached c = search needs
 
 cast-opened : tie.Need-cast-opened
 cast-opened c = search needs
@@ -52,14 +40,11 @@ mul-opened c = search needs
 slice-write-opened : tie.Need-slice-write-opened
 slice-write-opened c = search needs
 
-add-labels : tie.Need-add-labels
-add-labels c = search needs
-
 cast-labels : tie.Need-cast-labels
 cast-labels c = search needs
 
-add-labels-2 : tie.Need-add-labels-2
-add-labels-2 c = search needs
+add-labels : tie.Need-add-labels
+add-labels c = search needs
 
 mul-labels : tie.Need-mul-labels
 mul-labels c = search needs
@@ -87,6 +72,21 @@ mul-number-2 c = search needs
 
 element-write-number : tie.Need-element-write-number
 element-write-number c = search needs
+
+mul-top : tie.Need-mul-top
+mul-top c = search needs
+
+element-write-top : tie.Need-element-write-top
+element-write-top c = search needs
+
+sub-reached : tie.Need-sub-reached
+sub-reached c = search needs
+
+mul-reached : tie.Need-mul-reached
+mul-reached c = search needs
+
+element-write-reached : tie.Need-element-write-reached
+element-write-reached c = search needs
 
 cast-mates : tie.Need-cast-mates
 cast-mates c = search needs
@@ -126,21 +126,16 @@ passed-spec =
     element-copy-out-t
     mul-k
     element-copy-out-k
-    sub-opens
+    add-k
     add-u
+    sub-u
     sub-end
-    mul-top
-    element-write-top
-    add-reached
-    mul-reached
-    element-write-reached
     cast-opened
     add-opened
     mul-opened
     slice-write-opened
-    add-labels
     cast-labels
-    add-labels-2
+    add-labels
     mul-labels
     slice-write-labels
     mul-wide
@@ -150,6 +145,11 @@ passed-spec =
     slice-read-number
     mul-number-2
     element-write-number
+    mul-top
+    element-write-top
+    sub-reached
+    mul-reached
+    element-write-reached
     cast-mates
     mul-mates
     slice-write-mates
