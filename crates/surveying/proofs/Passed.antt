@@ -1,6 +1,7 @@
 -- Passing one bracket: what the code does, and what that means in the word of a map.
 --
--- entry-room, label-room, passes-is == the entries that `passed` reads, and what it leaves
+-- entry-room, label-room == the entries that `passed` reads are there, whatever was stored above the stack
+-- passes-is       == what it leaves
 -- begun-is        == so the lists that `survey` makes are begun
 -- Known s old p l == just before position p all lists hold what belongs there
 -- known-start     == before the first position
@@ -37,13 +38,13 @@ use Rattle.surveying.proofs.Pairs.{Paired, paired-start, paired-opens, 
 
 -- ---- the code
 module _ (x v p : ℕ) (ts ns rs os ls ms : List ℕ) where
-  pub entry-room : Passable x v p (record { top = ts; number = ns; reached = rs; opened = os; labels = ls; mates = ms })
-      → getD ts x 0 + 1 - v < length (set os (getD ts x 0 + 1) p)
-  entry-room P = omega (arith, P .opened, length-set os (getD ts x 0 + 1) p)
+  pub entry-room : (y : ℕ) → Passable x v p (record { top = ts; number = ns; reached = rs; opened = os; labels = ls; mates = ms })
+      → getD ts x 0 + 1 - v < length (set os (getD ts x 0 + 1) y)
+  entry-room y P = omega (arith, P .opened, length-set os (getD ts x 0 + 1) y)
 
-  pub label-room : Passable x v p (record { top = ts; number = ns; reached = rs; opened = os; labels = ls; mates = ms })
-      → getD ts x 0 + 1 - v - v < length (set ls (getD ts x 0 + 1) (getD rs x 0 + 1))
-  label-room P = omega (arith, P .labelled, length-set ls (getD ts x 0 + 1) (getD rs x 0 + 1))
+  pub label-room : (y : ℕ) → Passable x v p (record { top = ts; number = ns; reached = rs; opened = os; labels = ls; mates = ms })
+      → getD ts x 0 + 1 - v - v < length (set ls (getD ts x 0 + 1) y)
+  label-room y P = omega (arith, P .labelled, length-set ls (getD ts x 0 + 1) y)
 
   pub passes-is : (q : ℕ) → q ≡ getD (set os (getD ts x 0 + 1) p) (getD ts x 0 + 1 - v) 0
       → Passes x v p (record { top = ts; number = ns; reached = rs; opened = os; labels = ls; mates = ms })
