@@ -245,11 +245,12 @@ module _ (s : List ℕ) (k : ℕ) where
         little = omega arith;
       }
 
+  -- of any position, so that a wrong one is refused for what it is
+  pub area-fits : (q x : ℕ) → Position s q → x ≡ areaAt q → x < 65536
+  area-fits q x Q hx = omega (arith, hx, number-cells s (Q .opens) Kind.area q (Q .below), areas-most s (Q .opens))
+
   module _ (long p c work : ℕ) (l : List ℕ) (W : Walking long p c work l) where
     module _ (q x r : ℕ) (Q : Position s q) (hq : q ≡ crossing (wordIn s) p) (hx : x ≡ areaAt q) (more : work < 16) where
-      pub area-fits : x < 65536
-      area-fits = omega (arith, hx, number-cells s (Q .opens) Kind.area q (Q .below), areas-most s (Q .opens))
-
       lands : x ≡ across p
       lands = hx ∙ ap areaAt hq
 

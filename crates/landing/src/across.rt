@@ -22,8 +22,8 @@ ghost use Rattle.landing.specs.Landed.{Landed};
 // Before a map is surveyed, sides are crossed by walking until this much is done: one for a side,
 const WORK: usize = 16;
 
-// and one for every so many places from the side to its mate, which walking has to pass. On the largest maps this takes at most a
-// sixth of the time of the survey, as measured on many in turn.
+// and one for every so many places from the side to its mate, which walking has to pass. On the largest maps that takes at most a
+// fourth of the time of the survey, as measured on many in turn.
 const PLACES: usize = 1024;
 
 // Answered where there are more sides than are crossed by walking.

@@ -59,7 +59,13 @@ loop-less : tie.Need-loop-less Inv-loop μ-loop
 loop-less c = search needs
 
 loop-again : tie.Need-loop-again Inv-loop μ-loop
-loop-again c = search walking-more
+loop-again c =
+    let step = c .before in
+    let number = step .before .before in
+    let crossing = number .before in
+    let now = crossing .before in
+    walking-more _ _ _ _ _ _ _ (now .before .loop .inv) _ _ _ (crossing .crossing-at .ensures .1) (crossing .crossing-at .ensures .0) (number .number-at .ensures)
+    (omega (arith, now .if2)) (step .step-past .ensures .0) _ (step .before .apart .ensures) (step .step-past .ensures .1) (omega (arith, c .if3))
 
 same-length : tie.Need-same-length Inv-loop μ-loop
 same-length c = search needs
