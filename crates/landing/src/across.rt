@@ -10,7 +10,7 @@ use walking::own_mate_at;
 use walking::step_past;
 use words::Family;
 ghost use mathlib.Core.Path.{_≡_};
-ghost use Prim.Native.Nat.{_≤_};
+ghost use Prim.Native.Nat.{_+_, _≤_};
 ghost use lib.ListN.{length};
 ghost use Rattle.words.specs.declared.family.Family.the-variants.{Square as square};
 ghost use Rattle.format.specs.Open.{openRefusal};
@@ -19,11 +19,12 @@ ghost use Rattle.surveying.specs.Surveyed.{Mates, Numbers};
 ghost use Rattle.walking.specs.Positions.{Numbered};
 ghost use Rattle.landing.specs.Landed.{Landed};
 
-// Before a map is surveyed, sides are crossed by walking: one for every so many places,
-const WALK: usize = 512;
+// Before a map is surveyed, sides are crossed by walking until this much is done: one for a side,
+const WORK: usize = 16;
 
-// and so many more. On the largest maps that takes at most half the time of the survey, as measured on many in turn.
-const LEAST: usize = 8;
+// and one for every so many places from the side to its mate, which walking has to pass. On the largest maps that takes at most a
+// fourth of the time of the survey, as measured on many in turn.
+const PLACES: usize = 1024;
 
 // Answered where there are more sides than are crossed by walking.
 const MORE: usize = 17;
@@ -49,16 +50,17 @@ fn few_across(map: &[u8], area: Area, list: &mut [u16]) -> usize
     if n == 0 {
         return 0;
     }
-    let most = n / WALK + LEAST;
     let mut p = first_at(map, Cell::Area(area));
     let mut c = 0;
+    let mut work = 0;
     let found = loop {
-        if c == most {
+        if WORK <= work {
             break MORE;
         }
         let q = own_mate_at(map, p);
         list[c] = number_at(map, Family::Square, q) as u16;
         c += 1;
+        work += 1 + apart(p, q) / PLACES;
         let r = step_past(map, Family::Square, p, q);
         if r <= p {
             break c;
@@ -66,6 +68,13 @@ fn few_across(map: &[u8], area: Area, list: &mut [u16]) -> usize
         p = r;
     };
     found
+}
+
+// How far apart two positions are.
+fn apart(p: usize, q: usize) -> usize
+    ensures { λ r. ⌜ r ≤ p + q ⌝ }
+{
+    if p < q { q - p } else { p - q }
 }
 
 // The areas across the sides of any area, gathered from all places.

@@ -1,7 +1,6 @@
 -- One pass over a whole map: the laws.
 pub mod Filled
-pub mod Fronts
-pub mod Labels
+pub mod Stacks
 pub mod Pairs
 pub mod Passed
 pub mod Unread

@@ -1,10 +1,9 @@
--- The mates on the way: a pair is known once its closing was passed; till then the entry of its opening keeps what was innermost
--- before it. A word that is balanced in both families.
+-- The mates on the way: a pair is known once its closing was passed; till then the entry of its opening says nothing. A word that is
+-- balanced in both families.
 --
--- Paired w old p l == l is old, with such an entry for each position before p
+-- Paired w old p l == l is old, with the mates of the pairs that were passed before p
 -- paired-start    == before the first position
--- paired-opens    == an opening keeps what was innermost before it
--- paired-entry    == at its closing it still does
+-- paired-opens    == an opening is put down as its own mate, for now
 -- paired-closes   == a closing and its opening become mates
 -- paired-end      == after the last position all have their mates
 -- Assumes nothing.
@@ -22,14 +21,13 @@ use Rattle.words.specs.Brackets.{Balanced, opens, closes, inner, mate}
 use Rattle.words.specs.declared.family.Family.{Family}
 use Rattle.words.specs.Word.{Word, seen, mateIn}
 use Rattle.words.proofs.Mate.{inner-closing}
-use Rattle.words.proofs.Mates.{seen-opens, seen-closes, mate-own, mate-in-opens, mate-in-closes, mate-in-below, mate-in-involutive, mate-in-family}
+use Rattle.words.proofs.Mates.{seen-opens, seen-closes, mate-own, mate-in-opens, mate-in-closes, mate-in-below, mate-in-involutive}
 use Rattle.surveying.proofs.Laws.{laid-table}
 
 pub record Paired (w : Word) (old : List ℕ) (p : ℕ) (l : List ℕ) : Type 0 where
   pub room : w .size ≤ length old
   pub long : length l ≡ length old
   pub paired : (q : ℕ) → q < p → mateIn w q < p → getD l q 0 ≡ mateIn w q
-  pub pending : (q : ℕ) → q < p → p ≤ mateIn w q → getD l q 0 ≡ inner (seen (w .letter q .family) w) q
   pub rest : (q : ℕ) → p ≤ q → getD l q 0 ≡ getD old q 0
 
 module _ (w : Word) (old : List ℕ) where
@@ -39,7 +37,6 @@ module _ (w : Word) (old : List ℕ) where
         room = r;
         long = refl;
         paired = λ q i j. absurd (omega arith);
-        pending = λ q i j. absurd (omega arith);
         rest = λ q i. refl;
       }
 
@@ -58,32 +55,26 @@ module _ (w : Word) (old : List ℕ) where
     crossed : (q : ℕ) → q < w .size → mateIn w q ≡ p → q ≡ mateIn w p
     crossed q j e = sym (mate-in-involutive w bal q j) ∙ ap (mateIn w) e
 
-    pub paired-opens : (x : ℕ) → seen K w p ≡ opens → x ≡ inner (seen K w) p → Paired w old (p + 1) (set l p x)
-    paired-opens x o e =
-        let h = seen-opens w K p o in
-        let up : p < mateIn w p = mate-in-opens w bal p i (h .1) in
+    pub paired-opens : seen K w p ≡ opens → Paired w old (p + 1) (set (set l p p) p p)
+    paired-opens o =
+        let up : p < mateIn w p = mate-in-opens w bal p i (seen-opens w K p o .1) in
+        let other : (x : ℕ) → x ≢ p → getD (set (set l p p) p p) x 0 ≡ getD l x 0
+        = λ x c. getD-set-other (set l p p) p x p 0 c ∙ getD-set-other l p x p 0 c in
         record {
           room = P .room;
-          long = length-set l p x ∙ P .long;
+          long = length-set (set l p p) p p ∙ length-set l p p ∙ P .long;
           paired = λ q j k.
               elim (same-or-not q p) [
                 | inl c ↦ let z : p < mateIn w q = rw c up in absurd (omega arith)
                 | inr c ↦
-                    getD-set-other l p q x 0 c
+                    other q c
                     ∙ P .paired q (omega arith)
                     (elim (same-or-not (mateIn w q) p) [
                       | inl d ↦ absurd (let z = crossed q (omega arith) d in omega arith)
                       | inr d ↦ omega arith
                     ])
               ];
-          pending = λ q j k.
-              elim (same-or-not q p) [
-                | inl c ↦
-                    ap (λ z. getD (set l p x) z 0) c ∙ getD-set-same l p x 0 here ∙ e
-                    ∙ ap (λ X. inner (seen X w) p) (sym (h .0)) ∙ ap (λ z. inner (seen (w .letter z .family) w) z) (sym c)
-                | inr c ↦ getD-set-other l p q x 0 c ∙ P .pending q (omega arith) (omega arith)
-              ];
-          rest = λ q j. getD-set-other l p q x 0 (λ c. omega arith) ∙ P .rest q (omega arith);
+          rest = λ q j. other q (λ c. omega arith) ∙ P .rest q (omega arith);
         }
 
     module _ (q : ℕ) (o : seen K w p ≡ closes) (e : inner (seen K w) p ≡ q + 1) where
@@ -98,11 +89,6 @@ module _ (w : Word) (old : List ℕ) where
 
       returned : mateIn w q ≡ p
       returned = ap (mateIn w) opening ∙ mate-in-involutive w bal p i
-
-      pub paired-entry : getD l q 0 ≡ inner (seen K w) q
-      paired-entry =
-          let f : w .letter q .family ≡ K = ap (λ z. w .letter z .family) opening ∙ mate-in-family w bal p i ∙ seen-closes w K p o .0 in
-          P .pending q earlier (let r = returned in omega arith) ∙ ap (λ X. inner (seen X w) q) f
 
       pub paired-closes : Paired w old (p + 1) (set (set l q p) p q)
       paired-closes =
@@ -133,15 +119,6 @@ module _ (w : Word) (old : List ℕ) where
                               | inl y ↦ absurd (d (crossed x (omega arith) y ∙ sym o′))
                               | inr y ↦ omega arith
                             ])
-                      ]
-                ];
-            pending = λ x j k.
-                elim (same-or-not x p) [
-                  | inl c ↦ let z : mateIn w x ≡ q = ap (mateIn w) c ∙ sym o′ in absurd (omega arith)
-                  | inr c ↦
-                      elim (same-or-not x q) [
-                        | inl d ↦ let z : mateIn w x ≡ p = ap (mateIn w) d ∙ r in absurd (omega arith)
-                        | inr d ↦ other x c d ∙ P .pending x (omega arith) (omega arith)
                       ]
                 ];
             rest = λ x j. other x (λ c. omega arith) (λ d. omega arith) ∙ P .rest x (omega arith);

@@ -1,7 +1,8 @@
 -- Passing one bracket: what the code does, and what that means in the word of a map.
 --
--- close-known, closes-is, opens-is == what `close` reads and leaves, what `open` leaves
--- passable-closes, passed-opens, passed-closes == `passed` by the bit
+-- entry-room, label-room == the entries that `passed` reads are there, whatever was stored above the stack
+-- passes-is       == what it leaves
+-- begun-is        == so the lists that `survey` makes are begun
 -- Known s old p l == just before position p all lists hold what belongs there
 -- known-start     == before the first position
 -- known-passable  == what is asked to pass the bracket at p
@@ -9,73 +10,88 @@
 -- Assumes nothing.
 use mathlib.Core.Path.{_≡_, refl, sym, ap, _∙_}
 use mathlib.Core.Logic.{_≢_, _⊎_, inl, inr}
-use mathlib.Core.List.{List}
+use mathlib.Core.List.{List, [], _∷_}
 use Prim.Native.Nat.{ℕ, _+_, _-_, _<_, _≤_}
 use native.Mathlib.Omega.{arith}
-use lib.ListN.{length, getD, set, length-set}
+use lib.ListN.{length, getD, set, replicate, length-set, length-replicate, getD-replicate}
 use lib.Seq.{getD-set-same, getD-set-other}
 use Rattle.count.proofs.Logic.{same-or-not}
+use Rattle.count.proofs.Below.{count-mono}
 use Rattle.count.proofs.Counts.{count-le}
+use Rattle.answers.specs.Answer.{Kind, Size}
 use Rattle.words.specs.Brackets.{opens, closes, isOpens, inner, number}
 use Rattle.words.specs.declared.family.Family.{Family}
 use Rattle.words.specs.declared.family.Family.the-variants.{Round as round, Square as square}
 use Rattle.words.specs.Word.{seen}
-use Rattle.words.proofs.Letters.{opens-not-closes}
-use Rattle.words.proofs.Stack.{inner-le}
-use Rattle.words.proofs.Numbers.{number-is}
-use Rattle.words.proofs.Mates.{seen-opens, seen-closes}
+use Rattle.words.proofs.Stack.{inner-le, inner-neither}
+use Rattle.words.proofs.Numbers.{openings, inner-number, number-zero}
 use Rattle.bits.specs.Strings.{bit, rank}
+use Rattle.bits.proofs.Laws.{bit-below-2}
 use Rattle.drawing.specs.Drawing.{mostEnds}
-use Rattle.format.specs.Bytes.{sizeIn, bitsA, partA, partB, familyBit, wordIn}
+use Rattle.format.specs.Bytes.{sizeIn, areasOf, bitsA, partA, partB, familyBit, wordIn}
 use Rattle.format.specs.Open.{openRefusal}
-use Rattle.walking.proofs.Decoded.{seen-neither, nested, places-most}
-use Rattle.walking.proofs.Decoded as decoded
-use Rattle.surveying.specs.Passing.{Lists, Begun, Two, Closable, Passable, Pushes, Pops, Passes}
-use Rattle.surveying.proofs.Fronts.{Fronted, fronted-start, fronted-stays, fronted-opens, fronted-closes}
-use Rattle.surveying.proofs.Labels.{Labelled, labelled-start, labelled-opens, labelled-stays, labelled-entry}
-use Rattle.surveying.proofs.Pairs.{Paired, paired-start, paired-opens, paired-entry, paired-closes}
+use Rattle.format.proofs.Passes.{opens-passes}
+use Rattle.format.proofs.Openings.{cells-numbers}
+use Rattle.walking.proofs.Decoded.{seen-opens, seen-closes, seen-neither, nested, places-most}
+use Rattle.surveying.specs.Passing.{Lists, bottom, stackRoom, Ones, Begun, above, partner, Passable, Passes}
+use Rattle.surveying.proofs.Stacks.{Stacked, stacked-start, stacked-number, stacked-inner, stacked-aside, stacked-stays, stacked-passes}
+use Rattle.surveying.proofs.Pairs.{Paired, paired-start, paired-opens, paired-closes}
 
 -- ---- the code
-module _ (x p : ℕ) (is ns ls ms : List ℕ) (i y : ℕ) (hi : i ≡ getD is x 0) (hy : y ≡ getD ms (i - 1) 0) where
-  pub close-known : Closable x p is ns ls ms → y < length ls
-  close-known C = rw (hy, hi) (C .labelled)
+module _ (x v p : ℕ) (ts ns rs os ls ms : List ℕ) where
+  pub entry-room : (y : ℕ) → Passable x v p (record { top = ts; number = ns; reached = rs; opened = os; labels = ls; mates = ms })
+      → getD ts x 0 + 1 - v < length (set os (getD ts x 0 + 1) y)
+  entry-room y P = omega (arith, P .opened, length-set os (getD ts x 0 + 1) y)
 
-  pub closes-is : Pops x p is ns ls ms (set is x (getD ms (i - 1) 0)) (set ns x (getD ls y 0)) (set (set ms (i - 1) p) p (i - 1))
-  closes-is = rw (hy, hi) (record { inner = refl; number = refl; mates = refl })
+  pub label-room : (y : ℕ) → Passable x v p (record { top = ts; number = ns; reached = rs; opened = os; labels = ls; mates = ms })
+      → getD ts x 0 + 1 - v - v < length (set ls (getD ts x 0 + 1) y)
+  label-room y P = omega (arith, P .labelled, length-set ls (getD ts x 0 + 1) y)
 
-pub opens-is : (x p : ℕ) (is ns es ls ms : List ℕ)
-    → Pushes x p (record { inner = is; number = ns; reached = es; labels = ls; mates = ms })
+  pub passes-is : (q : ℕ) → q ≡ getD (set os (getD ts x 0 + 1) p) (getD ts x 0 + 1 - v) 0
+      → Passes x v p (record { top = ts; number = ns; reached = rs; opened = os; labels = ls; mates = ms })
+      (record {
+        top = set ts x (getD ts x 0 + 1 - v - v);
+        number = set ns x (getD (set ls (getD ts x 0 + 1) (getD rs x 0 + 1)) (getD ts x 0 + 1 - v - v) 0);
+        reached = set rs x (getD rs x 0 + 1 - v);
+        opened = set os (getD ts x 0 + 1) p;
+        labels = set ls (getD ts x 0 + 1) (getD rs x 0 + 1);
+        mates = set (set ms q p) p q;
+      })
+  passes-is q h = rw h (record { top = refl; number = refl; reached = refl; opened = refl; labels = refl; mates = refl })
+
+pub begun-is : (z : Size) (a : ℕ) (ms : List ℕ) → a ≡ bottom round z → mostEnds ≤ length ms
+    → Begun z
     (record {
-      inner = set is x (p + 1);
-      number = set ns x (getD es x 0 + 1);
-      reached = set es x (getD es x 0 + 1);
-      labels = set ls (p + 1) (getD es x 0 + 1);
-      mates = set ms p (getD is x 0);
+      top = 0 ∷ a ∷ [];
+      number = replicate 2 1;
+      reached = replicate 2 1;
+      opened = replicate 2052 0;
+      labels = replicate 2052 1;
+      mates = ms;
     })
-opens-is x p is ns es ls ms = record { inner = refl; number = refl; reached = refl; labels = refl; mates = refl }
-
-pub passable-closes : (x v p : ℕ) (is ns es ls ms : List ℕ)
-    → Passable x v p (record { inner = is; number = ns; reached = es; labels = ls; mates = ms }) → (v ≡ 0 → ⊥) → Closable x p is ns ls ms
-passable-closes x v p is ns es ls ms P n = P .closing n
-
-module _ (x v p : ℕ) (l : Lists) where
-  pub passed-opens : (r : Lists) → v ≡ 0 → Pushes x p l r → Passes x v p l r
-  passed-opens r z O =
-      record { opened = λ e. O; closed = λ n. absurd (n z); reached = λ n. absurd (n z); labels = λ n. absurd (n z) }
-
-  pub passed-closes : (is ns ms : List ℕ) → (v ≡ 0 → ⊥) → Pops x p (l .inner) (l .number) (l .labels) (l .mates) is ns ms
-      → Passes x v p l (record { inner = is; number = ns; reached = l .reached; labels = l .labels; mates = ms })
-  passed-closes is ns ms n C =
-      record { opened = λ z. absurd (n z); closed = λ m. C; reached = λ m. refl; labels = λ m. refl }
+begun-is z a ms h long =
+    let ones : Ones (replicate 2 1) = record { long = omega arith; zero = refl; one = refl } in
+    record {
+      top-long = omega arith;
+      top-square = refl;
+      top-round = h;
+      number = ones;
+      reached = ones;
+      opened-long = omega (arith, length-replicate {A = ℕ} 2052 0);
+      labels-long = omega (arith, length-replicate {A = ℕ} 2052 1);
+      labels = λ i l. getD-replicate 2052 i 1 0 l;
+      mates-long = long;
+    }
 
 -- ---- in the word of a map
 pub record Known (s old : List ℕ) (p : ℕ) (l : Lists) : Type 0 where
-  pub inner-long : 2 ≤ length (l .inner)
+  pub top-long : 2 ≤ length (l .top)
   pub number-long : 2 ≤ length (l .number)
   pub reached-long : 2 ≤ length (l .reached)
-  pub labels-long : mostEnds < length (l .labels)
-  pub front : (K : Family) → Fronted K (wordIn s) p (getD (l .inner) (familyBit K) 0) (getD (l .number) (familyBit K) 0) (getD (l .reached) (familyBit K) 0)
-  pub labels : Labelled (wordIn s) p (l .labels)
+  pub opened-long : stackRoom ≤ length (l .opened)
+  pub labels-long : stackRoom ≤ length (l .labels)
+  pub stacked : (K : Family) → Stacked K (wordIn s) (bottom K (sizeIn s)) p (getD (l .top) (familyBit K) 0) (getD (l .reached) (familyBit K) 0) (l .opened) (l .labels)
+  pub numbered : (K : Family) → getD (l .number) (familyBit K) 0 ≡ number (seen K (wordIn s)) p
   pub mates : Paired (wordIn s) old p (l .mates)
 
 pub bit-two : (K : Family) → familyBit K < 2
@@ -89,49 +105,96 @@ told round square = inr (λ e. omega arith)
 told square round = inr (λ e. omega arith)
 told square square = inl refl
 
-module _ (s : List ℕ) (o : openRefusal s ≡ 0) where
-  two-at : (l : List ℕ) (k : ℕ) (K : Family) → Two l k → getD l (familyBit K) 0 ≡ k
-  two-at l k round T = T .one
-  two-at l k square T = T .zero
+-- how many points (areas) a map has
+abbrev cells : Family → Size → ℕ
+cells round z = z .n
+cells square z = areasOf z
 
-  pub known-start : (l : Lists) → Begun l → Known s (l .mates) 0 l
+-- two stacks, and an entry above each, do not meet
+apart : (K X : Family) (z : Size) (c d : ℕ) → familyBit X ≢ familyBit K → c < cells K z → d < cells X z → bottom K z + c + 1 ≢ bottom X z + d
+apart round round z c d n h g e = n refl
+apart round square z c d n h g e = omega arith
+apart square round z c d n h g e = omega arith
+apart square square z c d n h g e = n refl
+
+module _ (s : List ℕ) (o : openRefusal s ≡ 0) where
+  few-open : (K : Family) (p : ℕ) → p ≤ bitsA (sizeIn s) → openings (seen K (wordIn s)) p < cells K (sizeIn s)
+  few-open round p l =
+      omega (arith, count-mono (λ q. isOpens (seen round (wordIn s) q)) p (bitsA (sizeIn s)) l, cells-numbers s Kind.point o)
+  few-open square p l =
+      omega (arith, count-mono (λ q. isOpens (seen square (wordIn s) q)) p (bitsA (sizeIn s)) l, cells-numbers s Kind.area o)
+
+  in-room : (K : Family) (d : ℕ) → d < cells K (sizeIn s) → bottom K (sizeIn s) + d + 1 < stackRoom
+  in-room round d h = omega (arith, opens-passes s o .m-most, opens-passes s o .n-most)
+  in-room square d h = omega (arith, opens-passes s o .m-most, opens-passes s o .n-least)
+
+  ones : (K : Family) (l : List ℕ) → Ones l → getD l (familyBit K) 0 ≡ 1
+  ones round l T = T .one
+  ones square l T = T .zero
+
+  pub known-start : (l : Lists) → Begun (sizeIn s) l → Known s (l .mates) 0 l
   unfolding wordIn
   known-start l B =
       record {
-        inner-long = B .inner .long;
+        top-long = B .top-long;
         number-long = B .number .long;
         reached-long = B .reached .long;
+        opened-long = B .opened-long;
         labels-long = B .labels-long;
-        front = λ K.
-            fronted-start K (wordIn s) (getD (l .inner) (familyBit K) 0) (getD (l .number) (familyBit K) 0) (getD (l .reached) (familyBit K) 0)
-            (two-at (l .inner) 0 K (B .inner)) (two-at (l .number) 1 K (B .number)) (two-at (l .reached) 1 K (B .reached));
-        labels = labelled-start (wordIn s) (l .labels) (B .outside);
+        stacked = λ K.
+            stacked-start K (wordIn s) (bottom K (sizeIn s)) (getD (l .top) (familyBit K) 0) (getD (l .reached) (familyBit K) 0) (l .opened) (l .labels) (top K) (ones K (l .reached) (B .reached))
+            (B .labels (bottom K (sizeIn s)) (let f = few-open K 0 (omega arith) in omega (arith, in-room K 0 (omega arith))));
+        numbered = λ K. ones K (l .number) (B .number) ∙ sym (number-zero (seen K (wordIn s)));
         mates = paired-start (wordIn s) (l .mates) (omega (arith, places-most s o, B .mates-long));
       }
-
-  module _ (old : List ℕ) (p : ℕ) (l : Lists) (N : Known s old p l) (i : p < bitsA (sizeIn s))
-      (K : Family) (own : bit (partA s) p ≡ familyBit K) (v : ℕ) (hv : v ≡ bit (partB K s) (rank (familyBit K) (partA s) p))
     where
+      top : (K : Family) → getD (l .top) (familyBit K) 0 ≡ bottom K (sizeIn s)
+      top round = B .top-round
+      top square = B .top-square
+
+  module _ (old : List ℕ) (p : ℕ) (l : Lists) (N : Known s old p l) where
+    deep-few : (K : Family) → p ≤ bitsA (sizeIn s) → N .stacked K .deep < cells K (sizeIn s)
+    deep-few K i = omega (arith, N .stacked K .few, few-open K p i)
+
+    known-ends : (K : Family) → p ≤ bitsA (sizeIn s) → getD (l .top) (familyBit K) 0 + 1 < stackRoom
+    known-ends K i = omega (arith, N .stacked K .ends, in-room K (N .stacked K .deep) (deep-few K i))
+
+    module _ (i : p < bitsA (sizeIn s)) (K : Family) (own : bit (partA s) p ≡ familyBit K) (v : ℕ) (hv : v ≡ bit (partB K s) (rank (familyBit K) (partA s) p)) where
       opens-here : v ≡ 0 → seen K (wordIn s) p ≡ opens
-      opens-here z = decoded.seen-opens s K p own (sym hv ∙ z)
+      opens-here z = seen-opens s K p own (sym hv ∙ z)
 
       closes-here : (v ≡ 0 → ⊥) → seen K (wordIn s) p ≡ closes
-      closes-here n = decoded.seen-closes s K p own (λ z. n (hv ∙ z))
+      closes-here n = seen-closes s K p own (λ z. n (hv ∙ z))
 
-      abbrev at : ℕ
-      at = getD (l .inner) (familyBit K) 0
+      abbrev t : ℕ
+      t = getD (l .top) (familyBit K) 0
 
-      open-before : (v ≡ 0 → ⊥) → inner (seen K (wordIn s)) p ≡ (getD (l .inner) (familyBit K) 0 - 1) + 1
+      abbrev r : ℕ
+      r = getD (l .reached) (familyBit K) 0
+
+      one : v < 2
+      one = omega (arith, bit-below-2 (partB K s) (rank (familyBit K) (partA s) p))
+
+      open-before : (v ≡ 0 → ⊥) → (bottom K (sizeIn s) < t) × (inner (seen K (wordIn s)) p ≡ getD (l .opened) t 0 + 1)
       open-before n =
-          let c = nested s K o .closing p i (closes-here n) in omega (arith, N .front K .inner)
+          stacked-inner K (wordIn s) (bottom K (sizeIn s)) p t r (l .opened) (l .labels) (N .stacked K) (nested s K o .closing p i (closes-here n))
 
-      -- what the opening that a closing finds has kept
-      kept : (v ≡ 0 → ⊥) → getD (l .mates) (getD (l .inner) (familyBit K) 0 - 1) 0 ≡ inner (seen K (wordIn s)) (getD (l .inner) (familyBit K) 0 - 1)
-      unfolding wordIn
-      kept n = paired-entry (wordIn s) old (λ X. nested s X o) K p i (l .mates) (N .mates) (at - 1) (closes-here n) (open-before n)
+      opened-room : t + 1 < length (l .opened)
+      opened-room = omega (arith, known-ends K (omega arith), N .opened-long)
 
-      earlier : (v ≡ 0 → ⊥) → getD (l .inner) (familyBit K) 0 - 1 < p
-      earlier n = omega (arith, open-before n, inner-le (seen K (wordIn s)) p)
+      labels-room : t + 1 < length (l .labels)
+      labels-room = omega (arith, known-ends K (omega arith), N .labels-long)
+
+      partner-opens : v ≡ 0 → partner (familyBit K) v p l ≡ p
+      partner-opens z =
+          ap (λ k. getD (set (l .opened) (t + 1) p) k 0) (omega arith) ∙ getD-set-same (l .opened) (t + 1) p 0 opened-room
+
+      partner-closes : (v ≡ 0 → ⊥) → inner (seen K (wordIn s)) p ≡ partner (familyBit K) v p l + 1
+      partner-closes n =
+          let w = one in
+          open-before n .1
+          ∙ ap (λ y. y + 1)
+          (sym (ap (λ k. getD (set (l .opened) (t + 1) p) k 0) (omega arith) ∙ getD-set-other (l .opened) (t + 1) t p 0 (λ e. omega arith)))
 
       pub known-passable : Passable (familyBit K) v p l
       unfolding wordIn
@@ -140,118 +203,98 @@ module _ (s : List ℕ) (o : openRefusal s ≡ 0) where
           let b = seen K (wordIn s) in
           let here : p < length (l .mates) = omega (arith, N .mates .room, N .mates .long) in
           record {
-            opening =
-                record {
-                  bit = bit-two K;
-                  few = omega arith;
-                  more = omega (arith, N .front K .reached, count-le (λ q. isOpens (b q)) p);
-                  named =
-                      omega (arith, N .front K .number, number-is b p, count-le (λ q. isOpens (b q)) (inner b p), inner-le b p);
-                  here = here;
-                  labelled = omega (arith, N .labels-long);
-                };
-            closing = λ n.
-                record {
-                  bit = bit-two K;
-                  few = omega arith;
-                  here = here;
-                  pending = omega (arith, open-before n, N .front K .inner);
-                  before = omega (arith, N .front K .inner, inner-le b p);
-                  labelled = omega (arith, kept n, inner-le b (at - 1), earlier n, N .labels-long);
-                  long = omega (arith, N .labels-long);
-                };
+            bit = bit-two K;
+            opening = one;
+            few = omega arith;
+            here = here;
+            more = omega (arith, N .stacked K .reached, count-le (λ q. isOpens (b q)) p);
+            some = omega (arith, N .stacked K .reached);
+            pending =
+                elim (same-or-not v 0) [ inl z ↦ omega arith | inr n ↦ omega (arith, one, open-before n .0) ];
+            opened = opened-room;
+            labelled = labels-room;
+            paired =
+                elim (same-or-not v 0) [
+                  | inl z ↦ omega (arith, partner-opens z, here)
+                  | inr n ↦ omega (arith, partner-closes n, inner-le b p, here)
+                ];
           }
 
-      other-stays : (X : Family) → familyBit X ≢ familyBit K → (j k r : ℕ) → Fronted X (wordIn s) p j k r → Fronted X (wordIn s) (p + 1) j k r
-      other-stays X d j k r F = fronted-stays X (wordIn s) p j k r F (seen-neither s X p (λ e. d (sym e ∙ own)))
+      other-stays : (X : Family) → familyBit X ≢ familyBit K
+          → Stacked X (wordIn s) (bottom X (sizeIn s)) (p + 1) (getD (l .top) (familyBit X) 0) (getD (l .reached) (familyBit X) 0)
+          (set (l .opened) (t + 1) p) (set (l .labels) (t + 1) (r + 1))
+      other-stays X d =
+          let a : ℕ = bottom X (sizeIn s) in
+          let t₀ : ℕ = getD (l .top) (familyBit X) 0 in
+          let r₀ : ℕ = getD (l .reached) (familyBit X) 0 in
+          stacked-stays X (wordIn s) a p t₀ r₀ (set (l .opened) (t + 1) p) (set (l .labels) (t + 1) (r + 1))
+          (stacked-aside X (wordIn s) a p t₀ r₀ (l .opened) (l .labels) (N .stacked X) (t + 1) p (r + 1)
+          (λ c h e.
+          apart K X (sizeIn s) (N .stacked K .deep) c d (deep-few K (omega arith)) (omega (arith, deep-few X (omega arith))) (omega (arith, N .stacked K .ends))))
+          (seen-neither s X p (λ e. d (sym e ∙ own)))
 
-      more-opens : (r : Lists) → v ≡ 0 → Pushes (familyBit K) p l r → Known s old (p + 1) r
-      unfolding wordIn
-      more-opens r z O =
+      -- in each family, where its stack ends after the bracket; and the number there, by the label or, in the other family, as it was
+      after : (X : Family) → Stacked X (wordIn s) (bottom X (sizeIn s)) (p + 1) (getD (set (l .top) (familyBit K) (t + 1 - v - v)) (familyBit X) 0)
+          (getD (set (l .reached) (familyBit K) (r + 1 - v)) (familyBit X) 0) (set (l .opened) (t + 1) p) (set (l .labels) (t + 1) (r + 1))
+      after X =
           let x : ℕ = familyBit K in
           let b2 = bit-two K in
-          let most = places-most s o in
-          let f = opens-here z in
-          let i₀ : ℕ = getD (l .inner) x 0 in
-          let k₀ : ℕ = getD (l .number) x 0 in
-          let r₀ : ℕ = getD (l .reached) x 0 in
-          rw (O .inner, O .number, O .reached, O .labels, O .mates)
-          (record {
-            inner-long = omega (arith, length-set (l .inner) x (p + 1), N .inner-long);
-            number-long = omega (arith, length-set (l .number) x (r₀ + 1), N .number-long);
-            reached-long = omega (arith, length-set (l .reached) x (r₀ + 1), N .reached-long);
-            labels-long = omega (arith, length-set (l .labels) (p + 1) (r₀ + 1), N .labels-long);
-            front = λ X.
-                elim (told K X) [
-                  | inl e ↦
-                      rw (
-                        e,
-                        getD-set-same (l .inner) x (p + 1) 0 (omega (arith, N .inner-long)),
-                        getD-set-same (l .number) x (r₀ + 1) 0 (omega (arith, N .number-long)),
-                        getD-set-same (l .reached) x (r₀ + 1) 0 (omega (arith, N .reached-long)),
-                      )
-                      (fronted-opens K (wordIn s) p i₀ k₀ r₀ (N .front K) f)
-                  | inr d ↦
-                      rw (
-                        getD-set-other (l .inner) x (familyBit X) (p + 1) 0 d,
-                        getD-set-other (l .number) x (familyBit X) (r₀ + 1) 0 d,
-                        getD-set-other (l .reached) x (familyBit X) (r₀ + 1) 0 d,
-                      )
-                      (other-stays X d (getD (l .inner) (familyBit X) 0) (getD (l .number) (familyBit X) 0) (getD (l .reached) (familyBit X) 0) (N .front X))
-                ];
-            labels =
-                labelled-opens (wordIn s) p (l .labels) (N .labels) K (r₀ + 1) (omega (arith, N .labels-long)) f
-                (omega (arith, N .front K .reached));
-            mates = paired-opens (wordIn s) old (λ X. nested s X o) K p i (l .mates) (N .mates) i₀ f (N .front K .inner);
-          })
-
-      -- no letter closes in one family and opens in another
-      not-opens : (v ≡ 0 → ⊥) → (X : Family) → seen X (wordIn s) p ≢ opens
-      not-opens n X u =
-          let same : X ≡ K = sym (seen-opens (wordIn s) X p u .0) ∙ seen-closes (wordIn s) K p (closes-here n) .0 in
-          opens-not-closes (ap (λ Y. seen Y (wordIn s) p) (sym same) ∙ u) (closes-here n)
-
-      more-closes : (r : Lists) → (v ≡ 0 → ⊥) → Pops (familyBit K) p (l .inner) (l .number) (l .labels) (l .mates) (r .inner) (r .number) (r .mates)
-          → r .reached ≡ l .reached → r .labels ≡ l .labels → Known s old (p + 1) r
-      unfolding wordIn
-      more-closes r n C hr hl =
-          let x : ℕ = familyBit K in
-          let b2 = bit-two K in
-          let q : ℕ = getD (l .inner) x 0 - 1 in
-          let y : ℕ = getD (l .mates) q 0 in
-          let r₀ : ℕ = getD (l .reached) x 0 in
-          let z : getD (l .labels) y 0 ≡ number (seen K (wordIn s)) q
-          = ap (λ t. getD (l .labels) t 0) (kept n) ∙ labelled-entry (wordIn s) p (l .labels) (N .labels) K q (earlier n) in
-          rw (C .inner, C .number, hr, hl, C .mates)
-          (record {
-            inner-long = omega (arith, length-set (l .inner) x y, N .inner-long);
-            number-long = omega (arith, length-set (l .number) x (getD (l .labels) y 0), N .number-long);
-            reached-long = N .reached-long;
-            labels-long = N .labels-long;
-            front = λ X.
-                elim (told K X) [
-                  | inl e ↦
-                      rw (
-                        e,
-                        getD-set-same (l .inner) x y 0 (omega (arith, N .inner-long)),
-                        getD-set-same (l .number) x (getD (l .labels) y 0) 0 (omega (arith, N .number-long)),
-                      )
-                      (fronted-closes K (wordIn s) p (getD (l .inner) x 0) (getD (l .number) x 0) r₀ (N .front K) q y (getD (l .labels) y 0) (closes-here n)
-                      (open-before n) (kept n) z)
-                  | inr d ↦
-                      rw (
-                        getD-set-other (l .inner) x (familyBit X) y 0 d,
-                        getD-set-other (l .number) x (familyBit X) (getD (l .labels) y 0) 0 d,
-                      )
-                      (other-stays X d (getD (l .inner) (familyBit X) 0) (getD (l .number) (familyBit X) 0) (getD (l .reached) (familyBit X) 0) (N .front X))
-                ];
-            labels = labelled-stays (wordIn s) p (l .labels) (N .labels) (not-opens n);
-            mates = paired-closes (wordIn s) old (λ X. nested s X o) K p i (l .mates) (N .mates) q (closes-here n) (open-before n);
-          })
-
-      pub known-more : (r : Lists) → Passes (familyBit K) v p l r → Known s old (p + 1) r
-      known-more r T =
-          elim (same-or-not v 0) [
-            | inl z ↦ more-opens r z (T .opened z)
-            | inr n ↦ more-closes r n (T .closed n) (T .reached n) (T .labels n)
+          elim (told K X) [
+            | inl e ↦
+                rw (
+                  e,
+                  getD-set-same (l .top) x (t + 1 - v - v) 0 (omega (arith, N .top-long)),
+                  getD-set-same (l .reached) x (r + 1 - v) 0 (omega (arith, N .reached-long)),
+                )
+                (stacked-passes K (wordIn s) (bottom K (sizeIn s)) p t r (l .opened) (l .labels) (N .stacked K) v one opened-room labels-room opens-here closes-here
+                (nested s K o .closing p i))
+            | inr d ↦
+                rw (
+                  getD-set-other (l .top) x (familyBit X) (t + 1 - v - v) 0 d,
+                  getD-set-other (l .reached) x (familyBit X) (r + 1 - v) 0 d,
+                )
+                (other-stays X d)
           ]
+
+      number-after : (X : Family)
+          → getD (set (l .number) (familyBit K) (getD (set (l .labels) (t + 1) (r + 1)) (t + 1 - v - v) 0)) (familyBit X) 0 ≡ number (seen X (wordIn s)) (p + 1)
+      number-after X =
+          let x : ℕ = familyBit K in
+          let b2 = bit-two K in
+          let b = seen X (wordIn s) in
+          let ls : List ℕ = set (l .labels) (t + 1) (r + 1) in
+          let y : ℕ = getD ls (t + 1 - v - v) 0 in
+          elim (told K X) [
+            | inl e ↦
+                ap (λ Y. getD (set (l .number) x y) (familyBit Y) 0) e ∙ getD-set-same (l .number) x y 0 (omega (arith, N .number-long))
+                ∙ ap (λ k. getD ls k 0)
+                (sym (ap (λ Y. getD (set (l .top) x (t + 1 - v - v)) (familyBit Y) 0) e ∙ getD-set-same (l .top) x (t + 1 - v - v) 0 (omega (arith, N .top-long))))
+                ∙ stacked-number X (wordIn s) (bottom X (sizeIn s)) (p + 1) (getD (set (l .top) x (t + 1 - v - v)) (familyBit X) 0)
+                (getD (set (l .reached) x (r + 1 - v)) (familyBit X) 0) (set (l .opened) (t + 1) p) ls (after X)
+            | inr d ↦
+                getD-set-other (l .number) x (familyBit X) y 0 d ∙ N .numbered X
+                ∙ sym (inner-number b (p + 1) p (inner-neither b p (seen-neither s X p (λ e. d (sym e ∙ own)))))
+          ]
+
+      pub known-more : (k : Lists) → Passes (familyBit K) v p l k → Known s old (p + 1) k
+      unfolding wordIn
+      known-more k T =
+          let x : ℕ = familyBit K in
+          let b2 = bit-two K in
+          rw (T .top, T .number, T .reached, T .opened, T .labels, T .mates)
+          (record {
+            top-long = omega (arith, length-set (l .top) x (t + 1 - v - v), N .top-long);
+            number-long = omega (arith, length-set (l .number) x (getD (set (l .labels) (t + 1) (r + 1)) (t + 1 - v - v) 0), N .number-long);
+            reached-long = omega (arith, length-set (l .reached) x (r + 1 - v), N .reached-long);
+            opened-long = omega (arith, length-set (l .opened) (t + 1) p, N .opened-long);
+            labels-long = omega (arith, length-set (l .labels) (t + 1) (r + 1), N .labels-long);
+            stacked = after;
+            numbered = number-after;
+            mates =
+                elim (same-or-not v 0) [
+                  | inl z ↦
+                      rw (partner-opens z) (paired-opens (wordIn s) old (λ X. nested s X o) K p i (l .mates) (N .mates) (opens-here z))
+                  | inr n ↦
+                      paired-closes (wordIn s) old (λ X. nested s X o) K p i (l .mates) (N .mates) (partner (familyBit K) v p l) (closes-here n) (partner-closes n)
+                ];
+          })

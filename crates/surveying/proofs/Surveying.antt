@@ -4,10 +4,10 @@
 -- surveying-start == before the first position
 -- mates-end, areas-end, points-end, mates-hold, areas-hold, points-hold == after the last: what the lists then hold
 -- point-room, area-room == the position has its entries
--- read-few, read-here == the next bit that is read, and its place
+-- read-few == the place of the next bit that is read
 -- surveying-passable, surveying-more == the bracket at p can be passed, and is
 -- Assumes nothing.
-use mathlib.Core.Path.{_≡_, sym, ap, _∙_}
+use mathlib.Core.Path.{_≡_, refl, sym, ap, _∙_}
 use mathlib.Core.Logic.{inl, inr}
 use mathlib.Core.List.{List}
 use Prim.Native.Nat.{ℕ, _+_, _*_, _<_, _≤_}
@@ -28,32 +28,32 @@ use Rattle.surveying.specs.Passing.{Lists, Begun, Passable, Passes}
 use Rattle.surveying.specs.Surveyed.{matesIn, numbersIn, Mates, Numbers}
 use Rattle.surveying.proofs.Laws.{mates-are, numbers-are}
 use Rattle.surveying.proofs.Filled.{Filled, filled-start, filled-more, filled-end}
-use Rattle.surveying.proofs.Pairs.{paired-end}
+use Rattle.surveying.proofs.Pairs.{Paired, paired-end}
 use Rattle.surveying.proofs.Passed.{Known, known-start, known-passable, known-more}
 use Rattle.surveying.proofs.Unread.{Unread, unread-start, unread-few, unread-more, unread-bit}
 
 abbrev pub Listed : Family → List ℕ → List ℕ → ℕ → List ℕ → Type 0
 Listed K s old p l = Filled (number (seen K (wordIn s))) (bitsA (sizeIn s)) old p l
 
-abbrev pub lists : List ℕ → List ℕ → List ℕ → List ℕ → List ℕ → Lists
-lists is ns es ls ms = record { inner = is; number = ns; reached = es; labels = ls; mates = ms }
+abbrev pub lists : List ℕ → List ℕ → List ℕ → List ℕ → List ℕ → List ℕ → Lists
+lists ts ns es os ls ms = record { top = ts; number = ns; reached = es; opened = os; labels = ls; mates = ms }
 
 module _ (s ms₀ rs₀ ps₀ a : List ℕ) (n : ℕ) where
-  pub record Surveying (is ns es ls us ms rs ps : List ℕ) (p : ℕ) : Type 0 where
+  pub record Surveying (ts ns es os ls us ms rs ps : List ℕ) (p : ℕ) : Type 0 where
     pub opens : openRefusal s ≡ 0
     pub a-is : a ≡ partA s
     pub size : n ≡ bitsA (sizeIn s)
     pub few : n ≤ 4096
     pub within : p ≤ n
-    pub known : Known s ms₀ p (lists is ns es ls ms)
+    pub known : Known s ms₀ p (lists ts ns es os ls ms)
     pub unread : Unread s p us
     pub areas : Listed square s rs₀ p rs
     pub points : Listed round s ps₀ p ps
 
-  pub surveying-start : (is ns es ls us : List ℕ) → openRefusal s ≡ 0 → Begun (lists is ns es ls ms₀) → getD us 0 0 ≡ 8 * startB square (sizeIn s)
+  pub surveying-start : (ts ns es os ls us : List ℕ) → openRefusal s ≡ 0 → Begun (sizeIn s) (lists ts ns es os ls ms₀) → getD us 0 0 ≡ 8 * startB square (sizeIn s)
       → getD us 1 0 ≡ 8 * startB round (sizeIn s) → 2 ≤ length us → 4096 ≤ length rs₀ → 4096 ≤ length ps₀ → a ≡ partA s → n ≡ bitsA (sizeIn s)
-      → Surveying is ns es ls us ms₀ rs₀ ps₀ 0
-  surveying-start is ns es ls us o B c b lu lr lp ha hn =
+      → Surveying ts ns es os ls us ms₀ rs₀ ps₀ 0
+  surveying-start ts ns es os ls us o B c b lu lr lp ha hn =
       let most = places-most s o in
       record {
         opens = o;
@@ -61,13 +61,13 @@ module _ (s ms₀ rs₀ ps₀ a : List ℕ) (n : ℕ) where
         size = hn;
         few = omega arith;
         within = omega arith;
-        known = known-start s o (lists is ns es ls ms₀) B;
+        known = known-start s o (lists ts ns es os ls ms₀) B;
         unread = unread-start s us lu c b;
         areas = filled-start (number (seen square (wordIn s))) (bitsA (sizeIn s)) rs₀ (omega arith);
         points = filled-start (number (seen round (wordIn s))) (bitsA (sizeIn s)) ps₀ (omega arith);
       }
 
-  module _ (is ns es ls us ms rs ps : List ℕ) (p : ℕ) (I : Surveying is ns es ls us ms rs ps p) where
+  module _ (ts ns es os ls us ms rs ps : List ℕ) (p : ℕ) (I : Surveying ts ns es os ls us ms rs ps p) where
     ended : n ≤ p → bitsA (sizeIn s) ≡ p
     ended l = omega (arith, I .size, I .within)
 
@@ -119,17 +119,17 @@ module _ (s ms₀ rs₀ ps₀ a : List ℕ) (n : ℕ) where
           rw e (unread-few s us p (I .unread) (I .opens) (in-map l) K (bit-here ∙ e))
 
       module _ (v : ℕ) (hv : v ≡ bit s (getD us x 0)) where
-        pub surveying-passable : Passable x v p (lists is ns es ls ms)
+        pub surveying-passable : Passable x v p (lists ts ns es os ls ms)
         surveying-passable =
             let K = family .0 in
             let e : x ≡ familyBit K = family .1 in
             let own : bit (partA s) p ≡ familyBit K = bit-here ∙ e in
             let h = unread-bit s us p (I .unread) (I .opens) (in-map l) K own v (hv ∙ ap (λ y. bit s (getD us y 0)) e) in
-            rw e (known-passable s (I .opens) ms₀ p (lists is ns es ls ms) (I .known) (in-map l) K own v h)
+            rw e (known-passable s (I .opens) ms₀ p (lists ts ns es os ls ms) (I .known) (in-map l) K own v h)
 
-        pub surveying-more : (is′ ns′ es′ ls′ ms′ : List ℕ) → Passes x v p (lists is ns es ls ms) (lists is′ ns′ es′ ls′ ms′)
-            → Surveying is′ ns′ es′ ls′ (set us x (getD us x 0 + 1)) ms′ (set rs p (getD ns 0 0)) (set ps p (getD ns 1 0)) (p + 1)
-        surveying-more is′ ns′ es′ ls′ ms′ T =
+        pub surveying-more : (ts′ ns′ es′ os′ ls′ ms′ : List ℕ) → Passes x v p (lists ts ns es os ls ms) (lists ts′ ns′ es′ os′ ls′ ms′)
+            → Surveying ts′ ns′ es′ os′ ls′ (set us x (getD us x 0 + 1)) ms′ (set rs p (getD ns 0 0)) (set ps p (getD ns 1 0)) (p + 1)
+        surveying-more ts′ ns′ es′ os′ ls′ ms′ T =
             let K = family .0 in
             let e : x ≡ familyBit K = family .1 in
             let own : bit (partA s) p ≡ familyBit K = bit-here ∙ e in
@@ -142,10 +142,10 @@ module _ (s ms₀ rs₀ ps₀ a : List ℕ) (n : ℕ) where
               few = I .few;
               within = omega arith;
               known =
-                  known-more s (I .opens) ms₀ p (lists is ns es ls ms) (I .known) here K own v h (lists is′ ns′ es′ ls′ ms′) (rw e at T);
+                  known-more s (I .opens) ms₀ p (lists ts ns es os ls ms) (I .known) here K own v h (lists ts′ ns′ es′ os′ ls′ ms′) (rw e at T);
               unread = rw e (unread-more s us p (I .unread) (I .opens) here K own);
               areas =
-                  filled-more (number (seen square (wordIn s))) (bitsA (sizeIn s)) rs₀ p rs (I .areas) (getD ns 0 0) here (I .known .front square .number);
+                  filled-more (number (seen square (wordIn s))) (bitsA (sizeIn s)) rs₀ p rs (I .areas) (getD ns 0 0) here (I .known .numbered square);
               points =
-                  filled-more (number (seen round (wordIn s))) (bitsA (sizeIn s)) ps₀ p ps (I .points) (getD ns 1 0) here (I .known .front round .number);
+                  filled-more (number (seen round (wordIn s))) (bitsA (sizeIn s)) ps₀ p ps (I .points) (getD ns 1 0) here (I .known .numbered round);
             }

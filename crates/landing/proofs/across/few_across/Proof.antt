@@ -8,19 +8,16 @@ use Rattle.landing.proofs.across.few_across.Statement.{statement}
 use Rattle.landing.proofs.across.few_across.Tie as tie
 
 abbrev Inv-loop : tie.InvT-loop
-Inv-loop map list₀ n most p₀ c₀ list p c = Walking map (areaOf map p₀) (length list₀) most p c list
+Inv-loop map list₀ n p₀ c₀ work₀ list p c work = Walking map (areaOf map p₀) (length list₀) p c work list
 
 abbrev μ-loop : tie.MeasureT-loop
-μ-loop map list₀ n most p₀ c₀ list p c = most - c
+μ-loop map list₀ n p₀ c₀ work₀ list p c work = 16 - c
 
 bits-a-requires : tie.Need-bits-a-requires Inv-loop μ-loop
 bits-a-requires c κs = search needs
 
 returns : tie.Need-returns Inv-loop μ-loop
 returns c = λ l. search landed-none
-
-add-most : tie.Need-add-most Inv-loop μ-loop
-add-most c = search needs
 
 first-at-requires : tie.Need-first-at-requires Inv-loop μ-loop
 first-at-requires c κs = search needs
@@ -46,6 +43,15 @@ slice-write-list c = search needs
 add-c : tie.Need-add-c Inv-loop μ-loop
 add-c c = search needs
 
+apart-requires : tie.Need-apart-requires Inv-loop μ-loop
+apart-requires c κs = search needs
+
+add-work : tie.Need-add-work Inv-loop μ-loop
+add-work c = search needs
+
+add-work-2 : tie.Need-add-work-2 Inv-loop μ-loop
+add-work-2 c = search needs
+
 step-past-requires : tie.Need-step-past-requires Inv-loop μ-loop
 step-past-requires c κs = search needs
 
@@ -53,7 +59,13 @@ loop-less : tie.Need-loop-less Inv-loop μ-loop
 loop-less c = search needs
 
 loop-again : tie.Need-loop-again Inv-loop μ-loop
-loop-again c = search walking-more
+loop-again c =
+    let step = c .before in
+    let number = step .before .before in
+    let mateIn = number .before in
+    let now = mateIn .before in
+    walking-more _ _ _ _ _ _ _ (now .before .loop .inv) _ _ _ (mateIn .own-mate-at .ensures .1) (mateIn .own-mate-at .ensures .0) (number .number-at .ensures)
+    (omega (arith, now .if2)) (step .step-past .ensures .0) _ (step .before .apart .ensures) (step .step-past .ensures .1) (omega (arith, c .if3))
 
 same-length : tie.Need-same-length Inv-loop μ-loop
 same-length c = search needs
@@ -75,7 +87,6 @@ few-across-spec =
     μ-loop
     bits-a-requires
     returns
-    add-most
     first-at-requires
     loop-holds
     own-mate-at-requires
@@ -84,6 +95,9 @@ few-across-spec =
     mul-list
     slice-write-list
     add-c
+    apart-requires
+    add-work
+    add-work-2
     step-past-requires
     loop-less
     loop-again

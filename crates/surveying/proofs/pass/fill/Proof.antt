@@ -7,11 +7,12 @@ use Rattle.surveying.proofs.pass.fill.Statement.{statement}
 use Rattle.surveying.proofs.pass.fill.Tie as tie
 
 abbrev Inv-loop : tie.InvT-loop
-Inv-loop map inner₀ number₀ reached₀ labels₀ unread₀ mates₀ areas₀ points₀ a n p₀ inner number reached labels unread mates areas points p =
-    Surveying map mates₀ areas₀ points₀ a n inner number reached labels unread mates areas points p
+Inv-loop map top₀ number₀ reached₀ opened₀ labels₀ unread₀ mates₀ areas₀ points₀ a n p₀ top number reached opened labels unread mates areas points p =
+    Surveying map mates₀ areas₀ points₀ a n top number reached opened labels unread mates areas points p
 
 abbrev μ-loop : tie.MeasureT-loop
-μ-loop map inner₀ number₀ reached₀ labels₀ unread₀ mates₀ areas₀ points₀ a n p₀ inner number reached labels unread mates areas points p = n - p
+μ-loop map top₀ number₀ reached₀ opened₀ labels₀ unread₀ mates₀ areas₀ points₀ a n p₀ top number reached opened labels unread mates areas points p =
+    n - p
 
 part-a-requires : tie.Need-part-a-requires Inv-loop μ-loop
 part-a-requires c κs = search needs
@@ -21,24 +22,6 @@ bits-a-requires c κs = search needs
 
 loop-holds : tie.Need-loop-holds Inv-loop μ-loop
 loop-holds c = search surveying-start
-
-element-copy-out-points : tie.Need-element-copy-out-points Inv-loop μ-loop
-element-copy-out-points c = search needs
-
-mul-points : tie.Need-mul-points Inv-loop μ-loop
-mul-points c = search needs
-
-slice-write-points : tie.Need-slice-write-points Inv-loop μ-loop
-slice-write-points c = search point-room
-
-element-copy-out-areas : tie.Need-element-copy-out-areas Inv-loop μ-loop
-element-copy-out-areas c = search needs
-
-mul-areas : tie.Need-mul-areas Inv-loop μ-loop
-mul-areas c = search needs
-
-slice-write-areas : tie.Need-slice-write-areas Inv-loop μ-loop
-slice-write-areas c = search area-room
 
 bit-requires : tie.Need-bit-requires Inv-loop μ-loop
 bit-requires c κs = search needs
@@ -61,11 +44,28 @@ element-copy-out-unread c = search needs
 add-unread : tie.Need-add-unread Inv-loop μ-loop
 add-unread c =
     let bit = c .before .before .before in
-    let now = bit .before .before .before in
-    record { fits = omega (arith, read-few _ _ _ _ _ _ _ _ _ _ _ _ _ _ _ (now .before .loop .inv) _ (now .loop-test .taken) (bit .bit .ensures .0)) }
+    record { fits = omega (arith, read-few _ _ _ _ _ _ _ _ _ _ _ _ _ _ _ _ (bit .before .before .loop .inv) _ (bit .before .loop-test .taken) (bit .bit .ensures .0)) }
 
 element-write-unread : tie.Need-element-write-unread Inv-loop μ-loop
 element-write-unread c = search needs
+
+element-copy-out-points : tie.Need-element-copy-out-points Inv-loop μ-loop
+element-copy-out-points c = search needs
+
+mul-points : tie.Need-mul-points Inv-loop μ-loop
+mul-points c = search needs
+
+slice-write-points : tie.Need-slice-write-points Inv-loop μ-loop
+slice-write-points c = search point-room
+
+element-copy-out-areas : tie.Need-element-copy-out-areas Inv-loop μ-loop
+element-copy-out-areas c = search needs
+
+mul-areas : tie.Need-mul-areas Inv-loop μ-loop
+mul-areas c = search needs
+
+slice-write-areas : tie.Need-slice-write-areas Inv-loop μ-loop
+slice-write-areas c = search area-room
 
 passed-requires : tie.Need-passed-requires Inv-loop μ-loop
 passed-requires c κs = search surveying-passable
@@ -77,12 +77,7 @@ loop-less : tie.Need-loop-less Inv-loop μ-loop
 loop-less c = search needs
 
 loop-again : tie.Need-loop-again Inv-loop μ-loop
-loop-again c =
-    let passed = c .before .before in
-    let read = passed .before .before .before .before .before .before .before in
-    let bit = read .before .before in
-    let now = bit .before .before .before in
-    surveying-more _ _ _ _ _ _ _ _ _ _ _ _ _ _ _ (now .before .loop .inv) _ (now .loop-test .taken) (bit .bit .ensures .0) _ (read .bit2 .ensures .0) _ _ _ _ _ (passed .passed .ensures)
+loop-again c = search surveying-more
 
 same-length : tie.Need-same-length Inv-loop μ-loop
 same-length c = search needs
@@ -105,12 +100,6 @@ fill-spec =
     part-a-requires
     bits-a-requires
     loop-holds
-    element-copy-out-points
-    mul-points
-    slice-write-points
-    element-copy-out-areas
-    mul-areas
-    slice-write-areas
     bit-requires
     mul-bit
     element-copy-out-bit
@@ -119,6 +108,12 @@ fill-spec =
     element-copy-out-unread
     add-unread
     element-write-unread
+    element-copy-out-points
+    mul-points
+    slice-write-points
+    element-copy-out-areas
+    mul-areas
+    slice-write-areas
     passed-requires
     add-p
     loop-less
