@@ -1,6 +1,5 @@
 -- What a caller knows of the lists that the pass has filled.
 --
--- laid-table      == a list that has f below n, and is as before from n on, is the table of f laid on what it was
 -- mates-are, numbers-are == a list that was laid out so has each place's mate, each place's number
 -- mates-long, numbers-long == and has 4,096 entries still
 -- listed-size     == the degree of a point (the sides of an area): how many entries have its number
@@ -10,19 +9,17 @@
 -- In turning order, or along the area's walk, its positions come in rising order (`walk-rises`, `walk-returns` of `words`).
 -- Assumes nothing.
 use mathlib.Core.Path.{_≡_, sym, ap, _∙_}
-use mathlib.Core.Logic.{inl, inr}
 use mathlib.Core.List.{List}
-use Prim.Native.Nat.{ℕ, _+_, _-_, _<_, _≤_}
+use Prim.Native.Nat.{ℕ, _-_, _<_, _≤_}
 use native.Mathlib.Omega.{arith}
 use lib.Dec.{eqb}
-use lib.ListN.{length, getD, drop, length-append, length-drop, List·getD-append}
-use lib.Seq.{getD-append-add, getD-drop, ext-getD}
+use lib.ListN.{length, getD, drop, length-append, length-drop}
 use Rattle.count.specs.Below.{count, find, table}
-use Rattle.count.proofs.Logic.{lt-or-ge}
 use Rattle.count.proofs.Below.{count-same}
 use Rattle.count.proofs.Search.{find-same}
-use Rattle.count.proofs.Lists.{table-length, table-getD}
+use Rattle.count.proofs.Lists.{table-length}
 use Rattle.answers.specs.Lent.{laid}
+use Rattle.lending.proofs.Laying.{laid-here}
 use Rattle.words.specs.Brackets.{number, first, size}
 use Rattle.words.specs.declared.family.Family.{Family}
 use Rattle.words.specs.Word.{seen, mateIn}
@@ -31,32 +28,6 @@ use Rattle.format.specs.Bytes.{sizeIn, bitsA, wordIn}
 use Rattle.format.specs.Open.{openRefusal}
 use Rattle.walking.proofs.Decoded.{nested, places-most}
 use Rattle.surveying.specs.Surveyed.{matesIn, numbersIn, Mates, Numbers, Early}
-
-module _ (f : ℕ → ℕ) (n : ℕ) (old : List ℕ) where
-  pub laid-here : (p : ℕ) → p < n → getD (laid (table f n) old) p 0 ≡ f p
-  laid-here p l =
-      List·getD-append (table f n) (drop (length (table f n)) old) 0 p (omega (arith, table-length f n)) ∙ table-getD f n p 0 l
-
-  laid-length : n ≤ length old → length (laid (table f n) old) ≡ length old
-  laid-length r =
-      omega (arith, table-length f n, length-append (table f n) (drop (length (table f n)) old), length-drop (length (table f n)) old)
-
-  pub laid-table : (l : List ℕ) → length l ≡ length old → n ≤ length old → ((p : ℕ) → p < n → getD l p 0 ≡ f p)
-      → ((p : ℕ) → n ≤ p → getD l p 0 ≡ getD old p 0) → l ≡ laid (table f n) old
-  laid-table l e r h g =
-      ext-getD 0 l (laid (table f n) old) (e ∙ sym (laid-length r))
-      (λ x i.
-      elim (lt-or-ge x n) [
-        | inl c ↦ h x c ∙ sym (laid-here x c)
-        | inr c ↦
-            let t : length (table f n) ≡ n = table-length f n in
-            let k : length (table f n) + (x - n) ≡ x = omega arith in
-            g x c
-            ∙ sym (ap (λ z. getD (laid (table f n) old) z 0) (sym k)
-            ∙ getD-append-add (table f n) (drop (length (table f n)) old) (x - n) 0
-            ∙ getD-drop (length (table f n)) old (x - n) 0
-            ∙ ap (λ z. getD old z 0) k)
-      ])
 
 module _ (s l old : List ℕ) where
   pub mates-are : l ≡ laid (matesIn s) old → Mates s l

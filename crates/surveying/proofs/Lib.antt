@@ -1,5 +1,4 @@
 -- One pass over a whole map: the laws.
-pub mod Filled
 pub mod Stacks
 pub mod Pairs
 pub mod Passed

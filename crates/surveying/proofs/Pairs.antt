@@ -22,7 +22,7 @@ use Rattle.words.specs.declared.family.Family.{Family}
 use Rattle.words.specs.Word.{Word, seen, mateIn}
 use Rattle.words.proofs.Mate.{inner-closing}
 use Rattle.words.proofs.Mates.{seen-opens, seen-closes, mate-own, mate-in-opens, mate-in-closes, mate-in-below, mate-in-involutive}
-use Rattle.surveying.proofs.Laws.{laid-table}
+use Rattle.lending.proofs.Laying.{laid-table}
 
 pub record Paired (w : Word) (old : List ℕ) (p : ℕ) (l : List ℕ) : Type 0 where
   pub room : w .size ≤ length old

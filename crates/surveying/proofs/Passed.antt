@@ -33,7 +33,7 @@ use Rattle.format.specs.Open.{openRefusal}
 use Rattle.format.proofs.Passes.{opens-passes}
 use Rattle.format.proofs.Openings.{cells-numbers}
 use Rattle.walking.proofs.Decoded.{seen-opens, seen-closes, seen-neither, nested, places-most}
-use Rattle.surveying.specs.Passing.{Lists, bottom, stackRoom, Ones, Begun, above, partner, Passable, Passes}
+use Rattle.surveying.specs.Passing.{Lists, bottom, stackRoom, Ones, Begun, partner, Passable, Passes}
 use Rattle.surveying.proofs.Stacks.{Stacked, stacked-start, stacked-number, stacked-inner, stacked-aside, stacked-stays, stacked-passes}
 use Rattle.surveying.proofs.Pairs.{Paired, paired-start, paired-opens, paired-closes}
 

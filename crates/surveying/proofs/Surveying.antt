@@ -7,7 +7,7 @@
 -- read-few == the place of the next bit that is read
 -- surveying-passable, surveying-more == the bracket at p can be passed, and is
 -- Assumes nothing.
-use mathlib.Core.Path.{_≡_, refl, sym, ap, _∙_}
+use mathlib.Core.Path.{_≡_, sym, ap, _∙_}
 use mathlib.Core.Logic.{inl, inr}
 use mathlib.Core.List.{List}
 use Prim.Native.Nat.{ℕ, _+_, _*_, _<_, _≤_}
@@ -19,6 +19,7 @@ use Rattle.words.specs.Brackets.{number}
 use Rattle.words.specs.declared.family.Family.{Family}
 use Rattle.words.specs.declared.family.Family.the-variants.{Round as round, Square as square}
 use Rattle.words.specs.Word.{seen}
+use Rattle.lending.proofs.Laying.{Filled, filled-start, filled-more, filled-end}
 use Rattle.bits.specs.Strings.{bit}
 use Rattle.bits.proofs.Laws.{bit-below-2}
 use Rattle.format.specs.Bytes.{sizeIn, bitsA, startB, partA, familyBit, wordIn}
@@ -27,8 +28,7 @@ use Rattle.walking.proofs.Decoded.{places-most, nested}
 use Rattle.surveying.specs.Passing.{Lists, Begun, Passable, Passes}
 use Rattle.surveying.specs.Surveyed.{matesIn, numbersIn, Mates, Numbers}
 use Rattle.surveying.proofs.Laws.{mates-are, numbers-are}
-use Rattle.surveying.proofs.Filled.{Filled, filled-start, filled-more, filled-end}
-use Rattle.surveying.proofs.Pairs.{Paired, paired-end}
+use Rattle.surveying.proofs.Pairs.{paired-end}
 use Rattle.surveying.proofs.Passed.{Known, known-start, known-passable, known-more}
 use Rattle.surveying.proofs.Unread.{Unread, unread-start, unread-few, unread-more, unread-bit}
 

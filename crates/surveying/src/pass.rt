@@ -4,10 +4,10 @@
 // for the square ones. So the family is an index and not a jump, which the brackets of a map would make slow. For the same reason
 // a bracket is passed by the same stores whether it opens or closes. What a closing puts above the stack is never read; an opening
 // is its own mate until its closing is met.
-use lending::wide;
 use layout::bits_a;
 use layout::part_a;
 use layout::start_b;
+use lending::wide;
 use words::Family;
 ghost use mathlib.Core.Path.{_≡_};
 ghost use Prim.Native.Nat.{_*_, _≤_};

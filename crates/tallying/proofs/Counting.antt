@@ -33,9 +33,9 @@ use Rattle.format.specs.Bytes.{sizeIn, bitsA, wordIn}
 use Rattle.format.specs.Open.{openRefusal}
 use Rattle.format.specs.Calls.{cellsIn, firstIn, placesIn}
 use Rattle.format.proofs.Openings.{cells-numbers, number-cells, areas-most}
+use Rattle.lending.proofs.Laying.{laid-table}
 use Rattle.walking.specs.Positions.{Position}
 use Rattle.walking.proofs.Decoded.{nested, places-most}
-use Rattle.surveying.proofs.Laws.{laid-table}
 use Rattle.tallying.specs.Tallied.{sidesIn, firstsIn, Blank, Tallied}
 
 -- ---- the first number that has a test, as far as it was met

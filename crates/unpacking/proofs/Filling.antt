@@ -13,7 +13,7 @@ use lib.Seq.{getD-set-same, getD-set-other}
 use Rattle.count.specs.Below.{table}
 use Rattle.count.proofs.Logic.{same-or-not}
 use Rattle.answers.specs.Lent.{laid}
-use Rattle.surveying.proofs.Laws.{laid-table}
+use Rattle.lending.proofs.Laying.{laid-table}
 
 module _ (old : List ℕ) (k : ℕ) (F e : ℕ → ℕ) where
   pub record Filling (p : ℕ) (l : List ℕ) : Type 0 where
