@@ -1,8 +1,8 @@
-ghost use Rattle.drawing.specs.Drawing.{lent};
-ghost use Rattle.demands.specs.Rehearsal.{Rehearses};
 // Packing, then a session on what was packed.
 use answers::Packed;
 use answers::Rehearsed;
+ghost use Rattle.drawing.specs.Drawing.{lent};
+ghost use Rattle.demands.specs.Rehearsal.{Rehearses};
 
 // Packs the drawing into `out`, then runs the calls on the map, from the first number on.
 pub fn rehearse(
