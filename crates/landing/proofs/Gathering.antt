@@ -211,12 +211,13 @@ module _ (s : List ℕ) (k : ℕ) where
             }
 
   -- ---- side by side, along the walk
-  pub record Walking (long p c work : ℕ) (l : List ℕ) : Type 0 where
+  pub record Walking (long most p c work : ℕ) (l : List ℕ) : Type 0 where
     pub wide : 16 ≤ long
     pub before : Gathered long p c l
     pub at : Position s p
     pub own : areaAt p ≡ k
     pub few : c ≤ work
+    pub most-few : most ≤ 16
     pub little : work ≤ 100
 
   first-own : (f : ℕ) → f ≡ first (seen square (wordIn s)) (bitsA (sizeIn s)) k → Position s f → areaAt f ≡ k
@@ -224,10 +225,10 @@ module _ (s : List ℕ) (k : ℕ) where
   first-own f hf P =
       ap areaAt hf ∙ eqb-true (areaAt (find on places)) k (find-has on places (omega (arith, P .below)))
 
-  walking-begins : (f : ℕ) (l : List ℕ) → f ≡ first (seen square (wordIn s)) (bitsA (sizeIn s)) k → Position s f → 16 ≤ length l
-      → Walking (length l) f 0 0 l
+  walking-begins : (n most f : ℕ) (l : List ℕ) → n ≡ bitsA (sizeIn s) → most ≡ n / 512 + 8 → f ≡ first (seen square (wordIn s)) (bitsA (sizeIn s)) k → Position s f → 16 ≤ length l
+      → Walking (length l) most f 0 0 l
   unfolding first
-  walking-begins f l hf P e =
+  walking-begins n most f l hn hm hf P e =
       let h : find on places ≡ f = sym hf in
       record {
         wide = e;
@@ -242,6 +243,7 @@ module _ (s : List ℕ) (k : ℕ) where
         at = P;
         own = first-own f hf P;
         few = omega arith;
+        most-few = omega (arith, places-most s (P .opens));
         little = omega arith;
       }
 
@@ -249,13 +251,13 @@ module _ (s : List ℕ) (k : ℕ) where
   pub area-fits : (q x : ℕ) → Position s q → x ≡ areaAt q → x < 65536
   area-fits q x Q hx = omega (arith, hx, number-cells s (Q .opens) Kind.area q (Q .below), areas-most s (Q .opens))
 
-  module _ (long p c work : ℕ) (l : List ℕ) (W : Walking long p c work l) where
-    module _ (q x r : ℕ) (Q : Position s q) (hq : q ≡ mateIn (wordIn s) p) (hx : x ≡ areaAt q) (more : work < 16) where
+  module _ (long most p c work : ℕ) (l : List ℕ) (W : Walking long most p c work l) where
+    module _ (q x r : ℕ) (Q : Position s q) (hq : q ≡ mateIn (wordIn s) p) (hx : x ≡ areaAt q) (more : work < most) where
       lands : x ≡ across p
       lands = hx ∙ ap areaAt hq
 
       module _ (hr : r ≡ step (seen square (wordIn s)) (bitsA (sizeIn s)) p) where
-        pub walking-more : (d : ℕ) → d ≤ p + q → Position s r → p < r → Walking long r (c + 1) (work + (1 + d / 1024)) (set l c x)
+        pub walking-more : (d : ℕ) → d ≤ p + q → Position s r → p < r → Walking long most r (c + 1) (work + (1 + d / 1024)) (set l c x)
         walking-more d near R h =
             let b = seen square (wordIn s) in
             let bal = nested s square (Q .opens) in
@@ -263,11 +265,12 @@ module _ (s : List ℕ) (k : ℕ) where
             = ap (count on) hr ∙ walk-more b places bal k p (W .at .below) (W .own) (omega arith) in
             record {
               wide = W .wide;
-              before = gathered-more long p c l (W .before) x r (W .at .below) (omega (arith, W .few, W .wide)) lands (W .own) (omega (arith, R .below)) t;
+              before = gathered-more long p c l (W .before) x r (W .at .below) (omega (arith, W .few, W .most-few, W .wide)) lands (W .own) (omega (arith, R .below)) t;
               at = R;
               own = ap areaAt hr ∙ inner-number b (step b places p) p (inner-step b places bal p (W .at .below)) ∙ W .own;
               few = omega (arith, W .few);
-              little = omega (arith, W .at .below, Q .below, places-most s (Q .opens));
+              most-few = W .most-few;
+              little = omega (arith, W .most-few, W .at .below, Q .below, places-most s (Q .opens));
             }
 
         pub walking-end : r ≤ p → Landed s k (c + 1) (set l c x)
@@ -277,7 +280,7 @@ module _ (s : List ℕ) (k : ℕ) where
             let bal = nested s square (Q .opens) in
             let t : count on places ≡ count on p + 1 = walk-last b places bal k p (W .at .below) (W .own) (omega arith) in
             gathered-end long places (c + 1) (set l c x)
-            (gathered-more long p c l (W .before) x places (W .at .below) (omega (arith, W .few, W .wide)) lands (W .own) (omega arith) t)
+            (gathered-more long p c l (W .before) x places (W .at .below) (omega (arith, W .few, W .most-few, W .wide)) lands (W .own) (omega arith) t)
             refl
 
   -- ---- what a list says that was filled
@@ -311,8 +314,9 @@ landed-take s k c l L h =
 
 -- the loop knows the area by its first position
 module _ (s : List ℕ) (k f : ℕ) (hf : f ≡ first (seen square (wordIn s)) (bitsA (sizeIn s)) k) (P : Position s f) where
-  pub walking-start : (l : List ℕ) → 16 ≤ length l → Walking s (areaOf s f) (length l) f 0 0 l
-  walking-start l e = subst (λ x. Walking s x (length l) f 0 0 l) (sym (first-own s k f hf P)) (walking-begins s k f l hf P e)
+  pub walking-start : (n most : ℕ) (l : List ℕ) → n ≡ bitsA (sizeIn s) → most ≡ n / 512 + 8 → 16 ≤ length l → Walking s (areaOf s f) (length l) most f 0 0 l
+  walking-start n most l hn hm e =
+      subst (λ x. Walking s x (length l) most f 0 0 l) (sym (first-own s k f hf P)) (walking-begins s k n most f l hn hm hf P e)
 
   pub landed-own : (c : ℕ) (l : List ℕ) → Landed s (areaOf s f) c l → Landed s k c l
   landed-own c l L = subst (λ x. Landed s x c l) (first-own s k f hf P) L

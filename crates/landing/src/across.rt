@@ -19,12 +19,15 @@ ghost use Rattle.surveying.specs.Surveyed.{Mates, Numbers};
 ghost use Rattle.walking.specs.Positions.{Numbered};
 ghost use Rattle.landing.specs.Landed.{Landed};
 
-// Before a map is surveyed, sides are crossed by walking until this much is done: one for a side,
-const WORK: usize = 16;
+// Before a map is surveyed, sides are crossed by walking until so much is done: one for every so many places of the map,
+const WALK: usize = 512;
 
-// and one for every so many places from the side to its mate, which walking has to pass. On the largest maps that takes at most a
-// fourth of the time of the survey, as measured on many in turn.
-const PLACES: usize = 1024;
+// and so much more.
+const LEAST: usize = 8;
+
+// A side is one, and one more for every so many places from it to its mate, which walking has to pass. On the largest maps all that
+// takes at most a fourth of the time of the survey, as measured on many in turn.
+const PASSED: usize = 1024;
 
 // Answered where there are more sides than are crossed by walking.
 const MORE: usize = 17;
@@ -50,17 +53,18 @@ fn few_across(map: &[u8], area: Area, list: &mut [u16]) -> usize
     if n == 0 {
         return 0;
     }
+    let most = n / WALK + LEAST;
     let mut p = first_at(map, Cell::Area(area));
     let mut c = 0;
     let mut work = 0;
     let found = loop {
-        if WORK <= work {
+        if most <= work {
             break MORE;
         }
         let q = own_mate_at(map, p);
         list[c] = number_at(map, Family::Square, q) as u16;
         c += 1;
-        work += 1 + apart(p, q) / PLACES;
+        work += 1 + apart(p, q) / PASSED;
         let r = step_past(map, Family::Square, p, q);
         if r <= p {
             break c;

@@ -4,6 +4,10 @@
 // for the square ones. So the family is an index and not a jump, which the brackets of a map would make slow. For the same reason
 // a bracket is passed by the same stores whether it opens or closes. What a closing puts above the stack is never read; an opening
 // is its own mate until its closing is met.
+//
+// The numbers of both families are read at every position, from 16-bit entries. Read through `top`, whose entries are wider and are
+// stored at a changing index, they took a third longer on maps where the families alternate; as two numbers, of which one is
+// chosen, they were compiled to a jump where a caller does not use the points.
 use layout::bits_a;
 use layout::part_a;
 use layout::start_b;

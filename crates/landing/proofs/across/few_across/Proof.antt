@@ -8,16 +8,19 @@ use Rattle.landing.proofs.across.few_across.Statement.{statement}
 use Rattle.landing.proofs.across.few_across.Tie as tie
 
 abbrev Inv-loop : tie.InvT-loop
-Inv-loop map list₀ n p₀ c₀ work₀ list p c work = Walking map (areaOf map p₀) (length list₀) p c work list
+Inv-loop map list₀ n most p₀ c₀ work₀ list p c work = Walking map (areaOf map p₀) (length list₀) most p c work list
 
 abbrev μ-loop : tie.MeasureT-loop
-μ-loop map list₀ n p₀ c₀ work₀ list p c work = 16 - c
+μ-loop map list₀ n most p₀ c₀ work₀ list p c work = most - c
 
 bits-a-requires : tie.Need-bits-a-requires Inv-loop μ-loop
 bits-a-requires c κs = search needs
 
 returns : tie.Need-returns Inv-loop μ-loop
 returns c = λ l. search landed-none
+
+add-most : tie.Need-add-most Inv-loop μ-loop
+add-most c = search needs
 
 first-at-requires : tie.Need-first-at-requires Inv-loop μ-loop
 first-at-requires c κs = search needs
@@ -64,7 +67,7 @@ loop-again c =
     let number = step .before .before in
     let mateIn = number .before in
     let now = mateIn .before in
-    walking-more _ _ _ _ _ _ _ (now .before .loop .inv) _ _ _ (mateIn .own-mate-at .ensures .1) (mateIn .own-mate-at .ensures .0) (number .number-at .ensures)
+    walking-more _ _ _ _ _ _ _ _ (now .before .loop .inv) _ _ _ (mateIn .own-mate-at .ensures .1) (mateIn .own-mate-at .ensures .0) (number .number-at .ensures)
     (omega (arith, now .if2)) (step .step-past .ensures .0) _ (step .before .apart .ensures) (step .step-past .ensures .1) (omega (arith, c .if3))
 
 same-length : tie.Need-same-length Inv-loop μ-loop
@@ -77,7 +80,15 @@ same-length-2 : tie.Need-same-length-2 Inv-loop μ-loop
 same-length-2 c = search needs
 
 returns-3 : tie.Need-returns-3 Inv-loop μ-loop
-returns-3 c = λ l. search (landed-own, walking-end)
+returns-3 c = λ l.
+    let step = c .before in
+    let number = step .before .before in
+    let mateIn = number .before in
+    let now = mateIn .before in
+    let first = now .before .before in
+    landed-own _ _ _ (first .first-at .ensures .0) (first .first-at .ensures .1) _ _
+    (walking-end _ _ _ _ _ _ _ _ (now .before .loop .inv) _ _ _ (mateIn .own-mate-at .ensures .1) (mateIn .own-mate-at .ensures .0) (number .number-at .ensures)
+    (omega (arith, now .if2)) (step .step-past .ensures .0) (omega (arith, c .if3)))
 
 pub few-across-spec : {M : Type 1} → statement M
 few-across-spec =
@@ -87,6 +98,7 @@ few-across-spec =
     μ-loop
     bits-a-requires
     returns
+    add-most
     first-at-requires
     loop-holds
     own-mate-at-requires
