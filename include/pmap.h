@@ -43,9 +43,9 @@
  * pmap_session to map_len and calls_len together, whatever the map is like. docs/SPEED.md has the times measured.
  *
  * Stack. No function recurses or allocates. pmap_session, pmap_neighbours, pmap_factor, pmap_joining and pmap_unpack hold
- * lists of the whole map on the stack: the deepest of them was measured at 33,220 bytes below the caller's frame, every other
- * call at up to 592 (libpmap.a of this toolchain, x86-64). A host that leaves PMAP_STACK bytes has nearly twice what any call
- * takes. tests/host measures it again at each run.
+ * lists of the whole map on the stack: the deepest of them was measured at 43,376 bytes below the caller's frame, every other
+ * call at up to 568 (libpmap.a of this toolchain, x86-64). A host that leaves PMAP_STACK bytes has half as much again as any
+ * call takes. tests/host measures it again at each run.
  *
  * Threads. Nothing is kept between calls, there is no global state, and no function calls back: calls may run in several
  * threads at once.

@@ -65,9 +65,9 @@ loop-again : tie.Need-loop-again Inv-loop μ-loop
 loop-again c =
     let step = c .before in
     let number = step .before .before in
-    let mateIn = number .before in
-    let now = mateIn .before in
-    walking-more _ _ _ _ _ _ _ _ (now .before .loop .inv) _ _ _ (mateIn .own-mate-at .ensures .1) (mateIn .own-mate-at .ensures .0) (number .number-at .ensures)
+    let mate = number .before in
+    let now = mate .before in
+    walking-more _ _ _ _ _ _ _ _ (now .before .loop .inv) _ _ _ (mate .own-mate-at .ensures .1) (mate .own-mate-at .ensures .0) (number .number-at .ensures)
     (omega (arith, now .if2)) (step .step-past .ensures .0) _ (step .before .apart .ensures) (step .step-past .ensures .1) (omega (arith, c .if3))
 
 same-length : tie.Need-same-length Inv-loop μ-loop
@@ -83,11 +83,11 @@ returns-3 : tie.Need-returns-3 Inv-loop μ-loop
 returns-3 c = λ l.
     let step = c .before in
     let number = step .before .before in
-    let mateIn = number .before in
-    let now = mateIn .before in
+    let mate = number .before in
+    let now = mate .before in
     let first = now .before .before in
     landed-own _ _ _ (first .first-at .ensures .0) (first .first-at .ensures .1) _ _
-    (walking-end _ _ _ _ _ _ _ _ (now .before .loop .inv) _ _ _ (mateIn .own-mate-at .ensures .1) (mateIn .own-mate-at .ensures .0) (number .number-at .ensures)
+    (walking-end _ _ _ _ _ _ _ _ (now .before .loop .inv) _ _ _ (mate .own-mate-at .ensures .1) (mate .own-mate-at .ensures .0) (number .number-at .ensures)
     (omega (arith, now .if2)) (step .step-past .ensures .0) (omega (arith, c .if3)))
 
 pub few-across-spec : {M : Type 1} → statement M
