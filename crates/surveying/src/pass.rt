@@ -76,7 +76,8 @@ fn fill(
     points: &mut [u16],
 )
     requires { ⌜ (openRefusal (now map) ≡ 0)
-        × Begun (sizeIn (now map)) (record { top = now top; number = now number; reached = now reached; opened = now opened; labels = now labels; mates = now mates })
+        × Begun (sizeIn (now map))
+        (record { top = now top; number = now number; reached = now reached; opened = now opened; labels = now labels; mates = now mates })
         × (getD (now unread) 0 0 ≡ 8 * startB square (sizeIn (now map))) × (getD (now unread) 1 0 ≡ 8 * startB round (sizeIn (now map)))
         × (2 ≤ length (now unread)) × (4096 ≤ length (now areas)) × (4096 ≤ length (now points)) ⌝ }
     ensures { λ _. ⌜ now (mates .exit) ≡ laid (matesIn (now (map .entry))) (now (mates .entry)) ⌝ }
@@ -112,7 +113,8 @@ fn passed(
     labels: &mut [u16],
     mates: &mut [u16],
 )
-    requires { ⌜ Passable x v p (record { top = now top; number = now number; reached = now reached; opened = now opened; labels = now labels; mates = now mates }) ⌝ }
+    requires { ⌜ Passable x v p
+        (record { top = now top; number = now number; reached = now reached; opened = now opened; labels = now labels; mates = now mates }) ⌝ }
     ensures { λ _. ⌜ Passes x v p
         (record {
           top = now (top .entry);
