@@ -15,7 +15,7 @@ ghost use Rattle.walking.specs.Positions.{Numbered};
 ghost use Rattle.tariff.specs.Tariff.{TariffFits, sumAcross};
 ghost use Rattle.rating.specs.Summed.{Summable};
 
-// The sum of the known factors across the sides of an area, with its count. A short list serves where it has few sides.
+// The sum of the known factors across the sides of an area, with its count.
 pub fn sum_across(map: &[u8], area: Area, kinds: &[u8], values: &[f64]) -> Running
     requires { ⌜ Numbered (now map) (Cell.Area area) × TariffFits (cellsIn (sizeIn (now map)) Kind.area) (now kinds) (now values) ⌝ }
     ensures { λ r. ⌜ r ≡ sumAcross (now (kinds .entry)) (now (values .entry)) (landingsIn (wordIn (now (map .entry))) (area .0)) ⌝ }
