@@ -1,4 +1,5 @@
 -- Answers and checks: the laws.
-pub mod Small
+pub mod Fixed
 pub mod Order
+pub mod Small
 pub mod Steps

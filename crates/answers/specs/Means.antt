@@ -3,7 +3,6 @@
 --
 -- openedMeans r    == m and n, or the number of the refusal
 -- placeMeans, pointMeans, areaMeans, countMeans, factorMeans == the value, or the number of the refusal
--- ranMeans r       == the place that a session leaves, or the number of the refusal
 -- packedMeans r    == the map's length, or the number of the refusal with what it carries
 -- unpackedMeans r, parsedMeans r == m, or the number of the refusal
 -- packingSaid r    == what a rehearsal says of packing: the map's length, or the refusal with what it carries
@@ -19,7 +18,6 @@ use Rattle.answers.specs.declared.cases.PointAnswer.{PointAnswer}
 use Rattle.answers.specs.declared.cases.AreaAnswer.{AreaAnswer}
 use Rattle.answers.specs.declared.cases.Count.{Count}
 use Rattle.answers.specs.declared.cases.FactorAnswer.{FactorAnswer}
-use Rattle.answers.specs.declared.cases.Ran.{Ran}
 use Rattle.answers.specs.declared.cases.Packed.{Packed}
 use Rattle.answers.specs.declared.cases.Unpacked.{Unpacked}
 use Rattle.answers.specs.declared.cases.Parsed.{Parsed}
@@ -49,10 +47,6 @@ abbrev pub factorMeans : FactorAnswer → Answer Float
 factorMeans (FactorAnswer.Is x) = answer x
 factorMeans (FactorAnswer.Declined k) = refused k
 
-abbrev pub ranMeans : Ran → Answer ℕ
-ranMeans (Ran.At p) = answer p
-ranMeans (Ran.Declined k) = refused k
-
 -- 02, 2/14: "Refusal 7 now carries the alternating pair"
 abbrev pub packedMeans : Packed → Answer ℕ
 packedMeans (Packed.Length l) = answer l
@@ -68,9 +62,11 @@ parsedMeans (Parsed.Borders m) = answer m
 parsedMeans (Parsed.Declined k) = refused k
 
 abbrev pub packingSaid : Rehearsed → Answer ℕ
-packingSaid (Rehearsed.NotPacked p) = packedMeans p
-packingSaid (Rehearsed.Session l r) = answer l
+packingSaid (Rehearsed.Session l r) = packedMeans (Packed.Length l)
+packingSaid (Rehearsed.Crossing a b) = packedMeans (Packed.Crossing a b)
+packingSaid (Rehearsed.Declined k) = packedMeans (Packed.Declined k)
 
 abbrev pub rehearsedMeans : Rehearsed → Answer ℕ
-rehearsedMeans (Rehearsed.NotPacked p) = packedMeans p
-rehearsedMeans (Rehearsed.Session l r) = ranMeans r
+rehearsedMeans (Rehearsed.Session l r) = placeMeans r
+rehearsedMeans (Rehearsed.Crossing a b) = packedMeans (Packed.Crossing a b)
+rehearsedMeans (Rehearsed.Declined k) = packedMeans (Packed.Declined k)

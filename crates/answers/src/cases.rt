@@ -34,12 +34,6 @@ pub enum FactorAnswer {
     Declined(u8),
 }
 
-// The place that a session leaves.
-pub enum Ran {
-    At(usize),
-    Declined(u8),
-}
-
 // The length of the map, or the pair that check 7 found.
 pub enum Packed {
     Length(usize),
@@ -59,8 +53,9 @@ pub enum Parsed {
     Declined(u8),
 }
 
-// Why there is no map, or the map's length and what the session on it answers.
+// The map's length and the place that the session on it leaves, or why it declines; or why there is no map.
 pub enum Rehearsed {
-    NotPacked(Packed),
-    Session(usize, Ran),
+    Session(usize, PlaceAnswer),
+    Crossing(usize, usize),
+    Declined(u8),
 }

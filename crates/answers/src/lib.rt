@@ -2,8 +2,7 @@
 // in proofs/, no function.
 //
 //     Place, Point, Area                            a number of each kind
-//     Opened, PlaceAnswer, PointAnswer, AreaAnswer, Count, FactorAnswer    what calls on a map answer
-//     Ran                                           what a session answers
+//     Opened, PlaceAnswer, PointAnswer, AreaAnswer, Count, FactorAnswer    what calls on a map answer, and a session
 //     Packed, Unpacked, Parsed, Rehearsed           what the desk answers
 //
 // Conventions. A place never serves as a point or an area number, so each kind has a type of its own. The number of the check that
@@ -19,7 +18,6 @@ pub use cases::Packed;
 pub use cases::Parsed;
 pub use cases::PlaceAnswer;
 pub use cases::PointAnswer;
-pub use cases::Ran;
 pub use cases::Rehearsed;
 pub use cases::Unpacked;
 pub use numbers::Area;

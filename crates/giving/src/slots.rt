@@ -5,12 +5,11 @@ use answers::FactorAnswer;
 use answers::Opened;
 use answers::PlaceAnswer;
 use answers::PointAnswer;
-use answers::Ran;
 use answers::Unpacked;
 ghost use mathlib.Core.Path.{_≡_};
 ghost use Prim.Native.Nat.{_<_};
 ghost use Rattle.answers.specs.Answer.{numberOf, valueOf, told, Size};
-ghost use Rattle.answers.specs.Means.{openedMeans, placeMeans, pointMeans, areaMeans, countMeans, factorMeans, ranMeans, unpackedMeans};
+ghost use Rattle.answers.specs.Means.{openedMeans, placeMeans, pointMeans, areaMeans, countMeans, factorMeans, unpackedMeans};
 ghost use Rattle.answers.specs.Lent.{leaves, itself};
 
 pub fn give_place(a: PlaceAnswer, out: &mut u16) -> u8
@@ -118,15 +117,15 @@ pub fn give_borders(a: Unpacked, m: &mut u16) -> u8
 }
 
 // The place that a session leaves.
-pub fn give_left(a: Ran, place: &mut usize) -> u8
-    ensures { λ r. ⌜ r ≡ numberOf (ranMeans a) ⌝ }
-    ensures { λ _. ⌜ now (place .exit) ≡ leaves itself (ranMeans a) (now (place .entry)) ⌝ }
+pub fn give_left(a: PlaceAnswer, place: &mut usize) -> u8
+    ensures { λ r. ⌜ r ≡ numberOf (placeMeans a) ⌝ }
+    ensures { λ _. ⌜ now (place .exit) ≡ leaves itself (placeMeans a) (now (place .entry)) ⌝ }
 {
     match a {
-        Ran::At(p) => {
-            *place = p;
+        PlaceAnswer::At(p) => {
+            *place = p.0;
             0
         }
-        Ran::Declined(k) => k,
+        PlaceAnswer::Declined(k) => k,
     }
 }

@@ -1,4 +1,5 @@
 // A whole session: a list of calls from a first number on, in one call.
+use answers::Place;
 use giving::give_left;
 ghost use mathlib.Core.Path.{_≡_};
 ghost use lib.ListN.{length as size};
@@ -30,7 +31,7 @@ pub extern "C" fn pmap_session(
         (now (place .entry)) ⌝ }
 {
     give_left(
-        sessions::session(map, first, calls, statuses, answers),
+        sessions::session(map, Place(first), calls, statuses, answers),
         place,
     )
 }

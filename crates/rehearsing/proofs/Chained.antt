@@ -4,18 +4,20 @@
 -- Packing          == what packing ensures
 -- map-within       == the map stands within the output
 -- session-rehearsed, crossing-rehearsed, declined-rehearsed == what `rehearse` returns
+-- rehearsal-fixed  == no two answers meet the contract of a rehearsal
 -- Assumes nothing.
-use mathlib.Core.Path.{_≡_, sym, ap, _∙_}
+use mathlib.Core.Path.{_≡_, refl, sym, ap, _∙_}
 use mathlib.Core.List.{List, [], _∷_}
 use Prim.Native.Nat.{ℕ, _≤_}
 use lib.ListN.{length, take}
 use Rattle.answers.specs.Answer.{Answer, answer, refusedWith, told}
-use Rattle.answers.specs.Means.{packedMeans, ranMeans}
+use Rattle.answers.specs.Means.{packedMeans, placeMeans, packingSaid, rehearsedMeans}
 use Rattle.answers.specs.declared.cases.Packed.{Packed}
 use Rattle.answers.specs.Checks.{Check, after}
+use Rattle.answers.proofs.Fixed.{rehearsed-fixed}
 use Rattle.answers.proofs.Steps.{checked-answered, checked-refused}
 use Rattle.answers.specs.Lent.{laid, leaves}
-use Rattle.answers.specs.declared.cases.Ran.{Ran}
+use Rattle.answers.specs.declared.cases.PlaceAnswer.{PlaceAnswer}
 use Rattle.drawing.specs.Drawing.{Drawing}
 use Rattle.drawing.specs.Session.{Outcome}
 use Rattle.format.specs.Pack.{packedBytes, packChecks, packOf}
@@ -27,6 +29,7 @@ use Rattle.answers.specs.declared.cases.Packed.the-variants as packed
 use Rattle.sessions.proofs.Checked.{ran-opens}
 use Rattle.demands.specs.Statements.{Agrees}
 use Rattle.demands.proofs.Demands.{demand-3}
+use Rattle.answers.specs.declared.cases.Rehearsed.{Rehearsed}
 use Rattle.answers.specs.declared.cases.Rehearsed.the-variants as the-case
 
 pub packed-session : (D : Drawing) (w o : ℕ) (s : List ℕ) → packOf D w o ≡ answer s
@@ -62,8 +65,8 @@ module _ {D : Drawing} {old : Lists} {work out : List ℕ} {r : Packed} (P : Pac
     abbrev pub ran : ℕ → Answer Outcome
     ran n = ranOf (take n out) first ks (length (old .statuses)) (length (old .answers))
 
-    pub session-rehearsed : (n : ℕ) → r ≡ packed.Length n → (x : Ran) (st an : List ℕ)
-        → ranMeans x ≡ told (λ (o : Outcome). o .place) (ran n) → st ≡ leaves (λ (o : Outcome). laid (statusesOf o)) (ran n) (old .statuses) → an ≡ leaves (λ (o : Outcome). laid (valuesOf o)) (ran n) (old .answers)
+    pub session-rehearsed : (n : ℕ) → r ≡ packed.Length n → (x : PlaceAnswer) (st an : List ℕ)
+        → placeMeans x ≡ told (λ (o : Outcome). o .place) (ran n) → st ≡ leaves (λ (o : Outcome). laid (statusesOf o)) (ran n) (old .statuses) → an ≡ leaves (λ (o : Outcome). laid (valuesOf o)) (ran n) (old .answers)
         → Rehearses D first ks (the-case.Session n x) old (record { work = work; out = out; statuses = st; answers = an })
     unfolding rehearsalOf packOf leaves
     session-rehearsed n e x st an hx hs ha =
@@ -79,23 +82,29 @@ module _ {D : Drawing} {old : Lists} {work out : List ℕ} {r : Packed} (P : Pac
           answers = ha ∙ ap (λ a. leaves (λ (o : Outcome). laid (valuesOf o)) a (old .answers)) is;
         }
 
-    refused-rehearsed : (j : ℕ) (xs : List ℕ) → packedMeans r ≡ refusedWith j xs
-        → Rehearses D first ks (the-case.NotPacked r) old (record { work = work; out = out; statuses = old .statuses; answers = old .answers })
+    refused-rehearsed : (j : ℕ) (xs : List ℕ) → packedMeans r ≡ refusedWith j xs → (q : Rehearsed) → packingSaid q ≡ refusedWith j xs
+        → rehearsedMeans q ≡ refusedWith j xs → Rehearses D first ks q old (record { work = work; out = out; statuses = old .statuses; answers = old .answers })
     unfolding rehearsalOf packOf leaves
-    refused-rehearsed j xs e =
+    refused-rehearsed j xs e q hp hm =
         let is : refusedWith j xs ≡ rehearsed D first ks old
         = sym (checked-refused checks book (packedBytes D) j xs (declined j xs packing (sym e ∙ P .packs .answers))) in
         record {
-          packs = P .packs;
-          means = e ∙ ap (told (λ (o : Outcome). o .place)) is;
+          packs = rw (e ∙ sym hp) at (P .packs);
+          means = hm ∙ ap (told (λ (o : Outcome). o .place)) is;
           statuses = ap (λ a. leaves (λ (o : Outcome). laid (statusesOf o)) a (old .statuses)) is;
           answers = ap (λ a. leaves (λ (o : Outcome). laid (valuesOf o)) a (old .answers)) is;
         }
 
     pub crossing-rehearsed : (a b : ℕ) → r ≡ packed.Crossing a b
-        → Rehearses D first ks (the-case.NotPacked r) old (record { work = work; out = out; statuses = old .statuses; answers = old .answers })
-    crossing-rehearsed a b e = refused-rehearsed 7 (a ∷ b ∷ []) (ap packedMeans e)
+        → Rehearses D first ks (the-case.Crossing a b) old (record { work = work; out = out; statuses = old .statuses; answers = old .answers })
+    crossing-rehearsed a b e = refused-rehearsed 7 (a ∷ b ∷ []) (ap packedMeans e) (the-case.Crossing a b) refl refl
 
     pub declined-rehearsed : (k : ℕ) → r ≡ packed.Declined k
-        → Rehearses D first ks (the-case.NotPacked r) old (record { work = work; out = out; statuses = old .statuses; answers = old .answers })
-    declined-rehearsed k e = refused-rehearsed k [] (ap packedMeans e)
+        → Rehearses D first ks (the-case.Declined k) old (record { work = work; out = out; statuses = old .statuses; answers = old .answers })
+    declined-rehearsed k e = refused-rehearsed k [] (ap packedMeans e) (the-case.Declined k) refl refl
+
+-- ---- the contract fixes the answer
+pub rehearsal-fixed : (D : Drawing) (first : ℕ) (ks : List ℕ) (r q : Rehearsed) (old new new′ : Lists)
+    → Rehearses D first ks r old new → Rehearses D first ks q old new′ → r ≡ q
+rehearsal-fixed D first ks r q old new new′ R Q =
+    rehearsed-fixed r q (R .packs .answers ∙ sym (Q .packs .answers)) (R .means ∙ sym (Q .means))

@@ -87,7 +87,7 @@ module _ (s : List ℕ) (first : ℕ) (ks st₀ an₀ : List ℕ) where
 
   module _ (st an : List ℕ) (p i : ℕ) (R : Partway st an p i) where
     pub partway-more : (t : Told) → i < length ks → Gives (callOf (getD ks i 0)) (mapAnswer s (callOf (getD ks i 0)) p) p t
-        → Partway (set st i (t .status)) (set an i (t .value)) (t .place) (i + 1)
+        → Partway (set st i (t .status)) (set an i (t .value)) (t .place .0) (i + 1)
     partway-more t l T =
         let c : Call = callOf (getD ks i 0) in
         let cs : List Call = callsOf (drop (i + 1) ks) in
@@ -97,12 +97,12 @@ module _ (s : List ℕ) (first : ℕ) (ks st₀ an₀ : List ℕ) where
           room = R .room;
           statuses-long = length-set st i (t .status) ∙ R .statuses-long;
           answers-long = length-set an i (t .value) ∙ R .answers-long;
-          place = place-more s p c cs (t .place) (T .place) ∙ ap (λ x. mapSession s p x .place) (sym h) ∙ R .place;
+          place = place-more s p c cs (t .place .0) (T .place) ∙ ap (λ x. mapSession s p x .place) (sym h) ∙ R .place;
           statuses =
-              from-more s numberOf p c cs st i (t .status) (t .place) (omega (arith, R .room .statuses, R .statuses-long)) (T .status) (T .place)
+              from-more s numberOf p c cs st i (t .status) (t .place .0) (omega (arith, R .room .statuses, R .statuses-long)) (T .status) (T .place)
               ∙ ap (λ x. from s numberOf p x st i) (sym h) ∙ R .statuses;
           answers =
-              from-more s valueOf p c cs an i (t .value) (t .place) (omega (arith, R .room .answers, R .answers-long)) (T .value) (T .place)
+              from-more s valueOf p c cs an i (t .value) (t .place .0) (omega (arith, R .room .answers, R .answers-long)) (T .value) (T .place)
               ∙ ap (λ x. from s valueOf p x an i) (sym h) ∙ R .answers;
         }
 

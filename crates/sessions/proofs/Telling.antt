@@ -1,12 +1,11 @@
 -- What one call of a session gives, on bytes that open.
 --
--- area-code, move-code, stay-code == which call a code is of, and whether it is a move
+-- area-code    == the code of an area
 -- call-inside, call-outside == a call at a place answers what the word does, and at another number 13
 -- place-at     == a place has a position
 -- tells-no-place, tells-past, tells-inside == what `tell` returns: at 0, past the last place, and at a place
--- after-move, after-stay == the place after a call
 -- value-fits   == what a call answers fits 16 bits
--- value-cross, value-turn, value-turn-back, value-along, value-point, value-area == what `value_at` returns for each code
+-- found-cross, found-turn, found-turn-back, found-along, found-point, found-area == what `found_at` returns for each code
 -- Assumes nothing.
 use mathlib.Core.Path.{_≡_, refl, sym, ap, _∙_}
 use mathlib.Core.Logic.{inl, inr}
@@ -19,6 +18,9 @@ use borrow.Author.Tests.{lt-ltb, le-leb, ltb-true, leb-true, ne-eqb}
 use Rattle.count.specs.Below.{pick}
 use Rattle.count.proofs.Logic.{same-or-not, both, not-both, pick-yes, pick-no}
 use Rattle.answers.specs.Answer.{Answer, answer, refused, numberOf, valueOf}
+use Rattle.answers.specs.declared.numbers.Place.{Place}
+use Rattle.answers.specs.declared.numbers.Point.{Point}
+use Rattle.answers.specs.declared.numbers.Area.{Area}
 use Rattle.words.specs.Brackets.{step, number}
 use Rattle.words.specs.declared.family.Family.the-variants.{Round as round, Square as square}
 use Rattle.words.specs.Word.{seen, mateIn}
@@ -33,30 +35,14 @@ use Rattle.format.proofs.Places.{atPlace}
 use Rattle.walking.specs.Positions.{Position}
 use Rattle.walking.proofs.Decoded.{places-most}
 use Rattle.sessions.specs.Lists.{Surveyed}
-use Rattle.sessions.specs.Told.{Finds, Gives}
+use Rattle.sessions.specs.Told.{foundNumber, placeFrom, Finds, Gives}
+use Rattle.sessions.specs.declared.calls.Found.{Found}
 use Rattle.sessions.specs.declared.calls.Told.{Told}
 
 -- ---- codes
 area-code : (k : ℕ) → (k ≡ 0 → ⊥) → (k ≡ 1 → ⊥) → (k ≡ 2 → ⊥) → (k ≡ 3 → ⊥) → (k ≡ 4 → ⊥) → callOf k ≡ Call.area
 unfolding callOf
 area-code k n0 n1 n2 n3 n4 = simp (ne-eqb k 0 n0, ne-eqb k 1 n1, ne-eqb k 2 n2, ne-eqb k 3 n3, ne-eqb k 4 n4)
-
--- the codes below 4 are those of the moves
-move-code : (k : ℕ) → k < 4 → isMove (callOf k) ≡ true
-unfolding callOf
-move-code zero l = refl
-move-code (suc zero) l = refl
-move-code (suc (suc zero)) l = refl
-move-code (suc (suc (suc zero))) l = refl
-move-code (suc (suc (suc (suc k)))) l = absurd (omega arith)
-
-stay-code : (k : ℕ) → 4 ≤ k → isMove (callOf k) ≡ false
-unfolding callOf
-stay-code k l =
-    elim (same-or-not k 4) [
-      | inl e ↦ ap (λ x. isMove (callOf x)) e
-      | inr n ↦ ap isMove (area-code k (λ e. omega arith) (λ e. omega arith) (λ e. omega arith) (λ e. omega arith) n)
-    ]
 
 -- ---- a call at a number
 module _ (s : List ℕ) (o : openRefusal s ≡ 0) (c : Call) (i : ℕ) where
@@ -84,34 +70,32 @@ place-at s i n o m hn l =
     let k : 0 < i = omega arith in
     record { opens = o; below = omega arith; few = omega (arith, places-most s o) }
 
-refused-gives : (c : Call) (a : Answer ℕ) (i : ℕ) (t : Told) → a ≡ refused 13 → t .status ≡ 13 → t .value ≡ 0 → t .place ≡ i → Gives c a i t
+refused-gives : (c : Call) (a : Answer ℕ) (i : ℕ) (t : Told) → a ≡ refused 13 → t .status ≡ 13 → t .value ≡ 0 → t .place .0 ≡ i → Gives c a i t
 unfolding numberOf valueOf
 refused-gives c a i t e hs hv hp = rw e (record { status = hs; value = hv; place = hp })
 
-module _ (s ms rs ps : List ℕ) (S : Surveyed s ms rs ps) (c : Call) (i : ℕ) where
-  module _ (t : Told) (hs : t .status ≡ 13) (hv : t .value ≡ 0) (hp : t .place ≡ i) where
-    pub tells-no-place : i ≡ 0 → Gives c (mapAnswer s c i) i t
-    tells-no-place e = refused-gives c (mapAnswer s c i) i t (call-outside s (S .opens) c i (λ l h. omega arith)) hs hv hp
+module _ (s ms rs ps : List ℕ) (S : Surveyed s ms rs ps) (c : Call) (at : Place) where
+  abbrev i : ℕ
+  i = at .0
 
-    pub tells-past : (n : ℕ) → n ≡ bitsA (sizeIn s) → n < i → Gives c (mapAnswer s c i) i t
-    tells-past n hn l = refused-gives c (mapAnswer s c i) i t (call-outside s (S .opens) c i (λ g h. omega arith)) hs hv hp
+  module _ (t : Told) (hs : t .status ≡ 13) (hv : t .value ≡ 0) (hp : t .place ≡ at) where
+    refused-here : (0 < i → i ≤ bitsA (sizeIn s) → ⊥) → Gives c (mapAnswer s c (at .0)) (at .0) t
+    refused-here n = refused-gives c (mapAnswer s c i) i t (call-outside s (S .opens) c i n) hs hv (ap (λ (p : Place). p .0) hp)
 
-  pub tells-inside : (n v q : ℕ) → (i ≡ 0 → ⊥) → n ≡ bitsA (sizeIn s) → i ≤ n → v ≡ moveIn (wordIn s) c (i - 1) → q ≡ placeAfter c (answer v) i
-      → Gives c (mapAnswer s c i) i (record { status = 0; value = v; place = q })
+    pub tells-no-place : at .0 ≡ 0 → Gives c (mapAnswer s c (at .0)) (at .0) t
+    tells-no-place e = refused-here (λ l h. omega arith)
+
+    pub tells-past : (n : ℕ) → n ≡ bitsA (sizeIn s) → n < at .0 → Gives c (mapAnswer s c (at .0)) (at .0) t
+    tells-past n hn l = refused-here (λ g h. omega arith)
+
+  pub tells-inside : (n : ℕ) (f : Found) (t : Told) → (at .0 ≡ 0 → ⊥) → n ≡ bitsA (sizeIn s) → at .0 ≤ n → Finds (wordIn s) c (at .0 - 1) f
+      → t .status ≡ 0 → t .value ≡ foundNumber f → t .place .0 ≡ placeFrom f (at .0) → Gives c (mapAnswer s c (at .0)) (at .0) t
   unfolding numberOf valueOf
-  tells-inside n v q m hn l hv hq =
-      let e : mapAnswer s c i ≡ answer v = call-inside s (S .opens) c i (omega arith) (omega arith) ∙ ap answer (sym hv) in
-      rw e (record { status = refl; value = refl; place = hq })
+  tells-inside n f t m hn l F hs hv hp =
+      let e : mapAnswer s c i ≡ answer (foundNumber f) = call-inside s (S .opens) c i (omega arith) (omega arith) ∙ ap answer (sym (F .is)) in
+      rw e (record { status = hs; value = hv; place = hp ∙ F .leads i })
 
--- ---- the place after a call
-module _ (code v i : ℕ) where
-  pub after-move : code < 4 → v ≡ placeAfter (callOf code) (answer v) i
-  after-move l = sym (pick-yes (isMove (callOf code)) v i (move-code code l))
-
-  pub after-stay : 4 ≤ code → i ≡ placeAfter (callOf code) (answer v) i
-  after-stay l = sym (pick-no (isMove (callOf code)) v i (stay-code code l))
-
--- ---- what `value_at` returns
+-- ---- what `found_at` returns
 value-fits : (s : List ℕ) (c : Call) (p r : ℕ) → Position s p → r ≡ moveIn (wordIn s) c p → r < 65536
 unfolding valueOf
 value-fits s c p r P e =
@@ -121,31 +105,37 @@ value-fits s c p r P e =
     rw h at (move-small s c (p + 1))
 
 module _ (s : List ℕ) (code p : ℕ) (P : Position s p) where
-  value-of : (c : Call) (r : ℕ) → callOf code ≡ c → r ≡ moveIn (wordIn s) c p → Finds (wordIn s) (callOf code) p r
-  value-of c r h e = record { is = e ∙ ap (λ x. moveIn (wordIn s) x p) (sym h); fits = value-fits s c p r P e }
+  found-of : (c : Call) (f : Found) → callOf code ≡ c → foundNumber f ≡ moveIn (wordIn s) c p → ((q : ℕ) → placeFrom f q ≡ placeAfter c (answer (foundNumber f)) q)
+      → Finds (wordIn s) (callOf code) p f
+  found-of c f h e k =
+      record {
+        is = e ∙ ap (λ x. moveIn (wordIn s) x p) (sym h);
+        leads = λ q. k q ∙ ap (λ x. placeAfter x (answer (foundNumber f)) q) (sym h);
+        fits = value-fits s c p (foundNumber f) P e;
+      }
 
-  pub value-cross : (r : ℕ) → code ≡ 0 → r ≡ mateIn (wordIn s) p → Finds (wordIn s) (callOf code) p (r + 1)
+  pub found-cross : (r : ℕ) → code ≡ 0 → r ≡ mateIn (wordIn s) p → Finds (wordIn s) (callOf code) p (Found.To (record { 0 = r + 1 }))
   unfolding moveIn callOf
-  value-cross r h e = value-of Call.cross (r + 1) (ap callOf h) (omega arith)
+  found-cross r h e = found-of Call.cross (Found.To (record { 0 = r + 1 })) (ap callOf h) (omega arith) (λ q. refl)
 
-  pub value-turn : (r : ℕ) → code ≡ 1 → r ≡ moveIn (wordIn s) Call.turn p → Finds (wordIn s) (callOf code) p r
+  pub found-turn : (r : Place) → code ≡ 1 → r .0 ≡ moveIn (wordIn s) Call.turn p → Finds (wordIn s) (callOf code) p (Found.To r)
   unfolding callOf
-  value-turn r h e = value-of Call.turn r (ap callOf h) e
+  found-turn r h e = found-of Call.turn (Found.To r) (ap callOf h) e (λ q. refl)
 
-  pub value-turn-back : (r : ℕ) → code ≡ 2 → r ≡ moveIn (wordIn s) Call.turn-back p → Finds (wordIn s) (callOf code) p r
+  pub found-turn-back : (r : Place) → code ≡ 2 → r .0 ≡ moveIn (wordIn s) Call.turn-back p → Finds (wordIn s) (callOf code) p (Found.To r)
   unfolding callOf
-  value-turn-back r h e = value-of Call.turn-back r (ap callOf h) e
+  found-turn-back r h e = found-of Call.turn-back (Found.To r) (ap callOf h) e (λ q. refl)
 
-  pub value-along : (r : ℕ) → code ≡ 3 → r ≡ step (seen square (wordIn s)) (bitsA (sizeIn s)) p
-      → Finds (wordIn s) (callOf code) p (r + 1)
+  pub found-along : (r : ℕ) → code ≡ 3 → r ≡ step (seen square (wordIn s)) (bitsA (sizeIn s)) p
+      → Finds (wordIn s) (callOf code) p (Found.To (record { 0 = r + 1 }))
   unfolding moveIn wordIn callOf
-  value-along r h e = value-of Call.along (r + 1) (ap callOf h) (omega arith)
+  found-along r h e = found-of Call.along (Found.To (record { 0 = r + 1 })) (ap callOf h) (omega arith) (λ q. refl)
 
-  pub value-point : (r : ℕ) → code ≡ 4 → r ≡ number (seen round (wordIn s)) p → Finds (wordIn s) (callOf code) p r
+  pub found-point : (r : Point) → code ≡ 4 → r .0 ≡ number (seen round (wordIn s)) p → Finds (wordIn s) (callOf code) p (Found.About r)
   unfolding moveIn callOf
-  value-point r h e = value-of Call.point r (ap callOf h) e
+  found-point r h e = found-of Call.point (Found.About r) (ap callOf h) e (λ q. refl)
 
-  pub value-area : (r : ℕ) → (code ≡ 0 → ⊥) → (code ≡ 1 → ⊥) → (code ≡ 2 → ⊥) → (code ≡ 3 → ⊥) → (code ≡ 4 → ⊥)
-      → r ≡ number (seen square (wordIn s)) p → Finds (wordIn s) (callOf code) p r
+  pub found-area : (r : Area) → (code ≡ 0 → ⊥) → (code ≡ 1 → ⊥) → (code ≡ 2 → ⊥) → (code ≡ 3 → ⊥) → (code ≡ 4 → ⊥)
+      → r .0 ≡ number (seen square (wordIn s)) p → Finds (wordIn s) (callOf code) p (Found.On r)
   unfolding moveIn
-  value-area r n0 n1 n2 n3 n4 e = value-of Call.area r (area-code code n0 n1 n2 n3 n4) e
+  found-area r n0 n1 n2 n3 n4 e = found-of Call.area (Found.On r) (area-code code n0 n1 n2 n3 n4) e (λ q. refl)

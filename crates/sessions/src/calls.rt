@@ -4,6 +4,9 @@ use crate::codes::CROSS;
 use crate::codes::POINT;
 use crate::codes::TURN;
 use crate::codes::TURN_BACK;
+use answers::Area;
+use answers::Place;
+use answers::Point;
 use layout::bits_a;
 use surveying::area_in;
 use surveying::mate_in;
@@ -14,21 +17,28 @@ use walking::turn_back_past;
 use walking::turn_past;
 use words::Family;
 ghost use mathlib.Core.Path.{_≡_};
-ghost use Rattle.answers.specs.Answer.{answer};
-ghost use Rattle.drawing.specs.Session.{Call, placeAfter};
+ghost use Prim.Native.Nat.{_<_};
+ghost use Rattle.drawing.specs.Session.{Call};
 ghost use Rattle.format.specs.Bytes.{wordIn};
 ghost use Rattle.format.specs.Calls.{moveIn, mapAnswer};
 ghost use Rattle.format.specs.Sessions.{callOf};
 ghost use Rattle.surveying.specs.Surveyed.{Mates};
 ghost use Rattle.walking.specs.Positions.{Position};
 ghost use Rattle.sessions.specs.Lists.{Surveyed};
-ghost use Rattle.sessions.specs.Told.{Finds, Gives};
+ghost use Rattle.sessions.specs.Told.{foundNumber, placeFrom, Finds, Gives};
 
-// What one call gives: its status, its answer, and the place after it.
+// What a call answers at a place: a move another place, the others its point or its area.
+pub enum Found {
+    To(Place),
+    About(Point),
+    On(Area),
+}
+
+// What one call gives: its status, its answer as a number for the list of answers, and the place after it.
 pub struct Told {
     pub status: u8,
     pub value: u16,
-    pub place: usize,
+    pub place: Place,
 }
 
 // One call at a place. 13: "place not 1 to 2m"; then "the place stays".
@@ -38,27 +48,24 @@ pub fn tell(
     areas: &[u16],
     points: &[u16],
     code: u8,
-    place: usize,
+    place: Place,
 ) -> Told
     requires { ⌜ Surveyed (now map) (now mates) (now areas) (now points) ⌝ }
-    ensures { λ r. ⌜ Gives (callOf code) (mapAnswer (now (map .entry)) (callOf code) place) place r ⌝ }
+    ensures { λ r. ⌜ Gives (callOf code) (mapAnswer (now (map .entry)) (callOf code) (place .0)) (place .0) r ⌝ }
 {
-    if place == 0 {
+    let i = place.0;
+    if i == 0 {
         return refused(place);
     }
-    if bits_a(map) < place {
+    if bits_a(map) < i {
         return refused(place);
     }
-    let value = value_at(map, mates, areas, points, code, place - 1);
-    Told {
-        status: 0,
-        value: value as u16,
-        place: place_after(code, value, place),
-    }
+    let found = found_at(map, mates, areas, points, code, i - 1);
+    answered(found, place)
 }
 
 // 13, at a place that stays.
-fn refused(at: usize) -> Told
+fn refused(at: Place) -> Told
     ensures { λ r. ⌜ (r .status ≡ 13) × (r .value ≡ 0) × (r .place ≡ at) ⌝ }
 {
     Told {
@@ -68,45 +75,72 @@ fn refused(at: usize) -> Told
     }
 }
 
-// Of a move "the answer is the new place"; else "the place stays".
-fn place_after(code: u8, value: usize, place: usize) -> usize
-    ensures { λ r. ⌜ r ≡ placeAfter (callOf code) (answer value) place ⌝ }
+// What was found, told to one who was at a place.
+fn answered(found: Found, at: Place) -> Told
+    requires { ⌜ foundNumber found < 65536 ⌝ }
+    ensures { λ r. ⌜ (r .status ≡ 0) × (r .value ≡ foundNumber found) × (r .place .0 ≡ placeFrom found (at .0)) ⌝ }
 {
-    if code < POINT { value } else { place }
+    Told {
+        status: 0,
+        value: number_of(found) as u16,
+        place: place_after(found, at),
+    }
+}
+
+// Of a move "the answer is the new place"; else "the place stays".
+fn place_after(found: Found, at: Place) -> Place
+    ensures { λ r. ⌜ r .0 ≡ placeFrom found (at .0) ⌝ }
+{
+    match found {
+        Found::To(p) => p,
+        Found::About(_) => at,
+        Found::On(_) => at,
+    }
+}
+
+// The number for the list of answers.
+fn number_of(found: Found) -> usize
+    ensures { λ r. ⌜ r ≡ foundNumber found ⌝ }
+{
+    match found {
+        Found::To(p) => p.0,
+        Found::About(p) => p.0,
+        Found::On(a) => a.0,
+    }
 }
 
 // What a call answers at position p.
-fn value_at(map: &[u8], mates: &[u16], areas: &[u16], points: &[u16], code: u8, p: usize) -> usize
+fn found_at(map: &[u8], mates: &[u16], areas: &[u16], points: &[u16], code: u8, p: usize) -> Found
     requires { ⌜ Surveyed (now map) (now mates) (now areas) (now points) × Position (now map) p ⌝ }
     ensures { λ r. ⌜ Finds (wordIn (now (map .entry))) (callOf code) p r ⌝ }
 {
     match code {
-        CROSS => own_mate_in(map, mates, p) + 1,
-        TURN => turn_in(map, mates, p),
-        TURN_BACK => turn_back_in(map, mates, p),
-        ALONG => step_in(map, mates, Family::Square, p) + 1,
-        POINT => point_in(map, points, p).0,
-        _ => area_in(map, areas, p).0,
+        CROSS => Found::To(Place(own_mate_in(map, mates, p) + 1)),
+        TURN => Found::To(turn_in(map, mates, p)),
+        TURN_BACK => Found::To(turn_back_in(map, mates, p)),
+        ALONG => Found::To(Place(step_in(map, mates, Family::Square, p) + 1)),
+        POINT => Found::About(point_in(map, points, p)),
+        _ => Found::On(area_in(map, areas, p)),
     }
 }
 
 // Turn, by the partner among the round brackets.
-fn turn_in(map: &[u8], mates: &[u16], p: usize) -> usize
+fn turn_in(map: &[u8], mates: &[u16], p: usize) -> Place
     requires { ⌜ Position (now map) p × Mates (now map) (now mates) ⌝ }
-    ensures { λ r. ⌜ r ≡ moveIn (wordIn (now (map .entry))) Call.turn p ⌝ }
+    ensures { λ r. ⌜ r .0 ≡ moveIn (wordIn (now (map .entry))) Call.turn p ⌝ }
 {
     let q = mate_in(map, mates, Family::Round, p);
-    turn_past(map, p, q)
+    Place(turn_past(map, p, q))
 }
 
 // Turn back, by the partner of the position before; 0 at the first place.
-fn turn_back_in(map: &[u8], mates: &[u16], p: usize) -> usize
+fn turn_back_in(map: &[u8], mates: &[u16], p: usize) -> Place
     requires { ⌜ Position (now map) p × Mates (now map) (now mates) ⌝ }
-    ensures { λ r. ⌜ r ≡ moveIn (wordIn (now (map .entry))) Call.turn-back p ⌝ }
+    ensures { λ r. ⌜ r .0 ≡ moveIn (wordIn (now (map .entry))) Call.turn-back p ⌝ }
 {
     if p == 0 {
-        return 0;
+        return Place(0);
     }
     let q = mate_in(map, mates, Family::Round, p - 1);
-    turn_back_past(map, p, q)
+    Place(turn_back_past(map, p, q))
 }

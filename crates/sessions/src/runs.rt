@@ -2,12 +2,13 @@
 use crate::calls::tell;
 use crate::codes::NO_CALL;
 use crate::codes::are_calls;
-use answers::Ran;
+use answers::Place;
+use answers::PlaceAnswer;
 use layout::bits_a;
 use surveying::survey;
 ghost use mathlib.Core.Path.{_≡_};
 ghost use lib.ListN.{length};
-ghost use Rattle.answers.specs.Means.{ranMeans};
+ghost use Rattle.answers.specs.Means.{placeMeans};
 ghost use Rattle.answers.specs.Answer.{told};
 ghost use Rattle.answers.specs.Lent.{laid, leaves};
 ghost use Rattle.drawing.specs.Session.{Outcome};
@@ -26,47 +27,47 @@ const PLACES_A_CALL: usize = 24;
 // Runs the calls on the map, from the first number on.
 pub fn session(
     map: &[u8],
-    first: usize,
+    first: Place,
     calls: &[u8],
     statuses: &mut [u8],
     answers: &mut [u16],
-) -> Ran
-    ensures { λ r. ⌜ ranMeans r ≡ told (λ (o : Outcome). o .place)
-        (ranOf (now (map .entry)) first (now (calls .entry)) (length (now (statuses .entry))) (length (now (answers .entry)))) ⌝ }
+) -> PlaceAnswer
+    ensures { λ r. ⌜ placeMeans r ≡ told (λ (o : Outcome). o .place)
+        (ranOf (now (map .entry)) (first .0) (now (calls .entry)) (length (now (statuses .entry))) (length (now (answers .entry)))) ⌝ }
     ensures { λ _. ⌜ now (statuses .exit) ≡ leaves (λ (o : Outcome). laid (statusesOf o))
-        (ranOf (now (map .entry)) first (now (calls .entry)) (length (now (statuses .entry))) (length (now (answers .entry))))
+        (ranOf (now (map .entry)) (first .0) (now (calls .entry)) (length (now (statuses .entry))) (length (now (answers .entry))))
         (now (statuses .entry)) ⌝ }
     ensures { λ _. ⌜ now (answers .exit) ≡ leaves (λ (o : Outcome). laid (valuesOf o))
-        (ranOf (now (map .entry)) first (now (calls .entry)) (length (now (statuses .entry))) (length (now (answers .entry))))
+        (ranOf (now (map .entry)) (first .0) (now (calls .entry)) (length (now (statuses .entry))) (length (now (answers .entry))))
         (now (answers .entry)) ⌝ }
 {
     let k = opening::refusal(map);
     if k != 0 {
-        return Ran::Declined(k);
+        return PlaceAnswer::Declined(k);
     }
     if statuses.len() < calls.len() {
-        return Ran::Declined(2);
+        return PlaceAnswer::Declined(2);
     }
     if answers.len() < calls.len() {
-        return Ran::Declined(2);
+        return PlaceAnswer::Declined(2);
     }
     if !are_calls(calls) {
-        return Ran::Declined(NO_CALL);
+        return PlaceAnswer::Declined(NO_CALL);
     }
-    Ran::At(run_open(map, first, calls, statuses, answers))
+    PlaceAnswer::At(run_open(map, first, calls, statuses, answers))
 }
 
 // The calls on bytes that open: few walk through the bytes, many look up in lists of the whole map.
 fn run_open(
     map: &[u8],
-    first: usize,
+    first: Place,
     calls: &[u8],
     statuses: &mut [u8],
     answers: &mut [u16],
-) -> usize
+) -> Place
     requires { ⌜ (openRefusal (now map) ≡ 0) × Room (now calls) (now statuses) (now answers) ⌝ }
-    ensures { λ r. ⌜ Leaves (mapSession (now (map .entry)) first (callsOf (now (calls .entry))))
-        r (now (statuses .entry)) (now (answers .entry)) (now (statuses .exit)) (now (answers .exit)) ⌝ }
+    ensures { λ r. ⌜ Leaves (mapSession (now (map .entry)) (first .0) (callsOf (now (calls .entry))))
+        (r .0) (now (statuses .entry)) (now (answers .entry)) (now (statuses .exit)) (now (answers .exit)) ⌝ }
 {
     if is_short(map, calls) {
         return run_walking(map, first, calls, statuses, answers);
@@ -82,14 +83,14 @@ fn is_short(map: &[u8], calls: &[u8]) -> bool {
 // Few calls: the lists are empty.
 fn run_walking(
     map: &[u8],
-    first: usize,
+    first: Place,
     calls: &[u8],
     statuses: &mut [u8],
     answers: &mut [u16],
-) -> usize
+) -> Place
     requires { ⌜ (openRefusal (now map) ≡ 0) × Room (now calls) (now statuses) (now answers) ⌝ }
-    ensures { λ r. ⌜ Leaves (mapSession (now (map .entry)) first (callsOf (now (calls .entry))))
-        r (now (statuses .entry)) (now (answers .entry)) (now (statuses .exit)) (now (answers .exit)) ⌝ }
+    ensures { λ r. ⌜ Leaves (mapSession (now (map .entry)) (first .0) (callsOf (now (calls .entry))))
+        (r .0) (now (statuses .entry)) (now (answers .entry)) (now (statuses .exit)) (now (answers .exit)) ⌝ }
 {
     let none = [0u16; 0];
     run(map, &none, &none, &none, first, calls, statuses, answers)
@@ -98,14 +99,14 @@ fn run_walking(
 // Many calls: the lists have room for a map of every size.
 fn run_surveyed(
     map: &[u8],
-    first: usize,
+    first: Place,
     calls: &[u8],
     statuses: &mut [u8],
     answers: &mut [u16],
-) -> usize
+) -> Place
     requires { ⌜ (openRefusal (now map) ≡ 0) × Room (now calls) (now statuses) (now answers) ⌝ }
-    ensures { λ r. ⌜ Leaves (mapSession (now (map .entry)) first (callsOf (now (calls .entry))))
-        r (now (statuses .entry)) (now (answers .entry)) (now (statuses .exit)) (now (answers .exit)) ⌝ }
+    ensures { λ r. ⌜ Leaves (mapSession (now (map .entry)) (first .0) (callsOf (now (calls .entry))))
+        (r .0) (now (statuses .entry)) (now (answers .entry)) (now (statuses .exit)) (now (answers .exit)) ⌝ }
 {
     let mut mates = [0u16; 4096];
     let mut areas = [0u16; 4096];
@@ -128,14 +129,14 @@ fn run_lent(
     mates: &mut [u16; 4096],
     areas: &mut [u16; 4096],
     points: &mut [u16; 4096],
-    first: usize,
+    first: Place,
     calls: &[u8],
     statuses: &mut [u8],
     answers: &mut [u16],
-) -> usize
+) -> Place
     requires { ⌜ (openRefusal (now map) ≡ 0) × Room (now calls) (now statuses) (now answers) ⌝ }
-    ensures { λ r. ⌜ Leaves (mapSession (now (map .entry)) first (callsOf (now (calls .entry))))
-        r (now (statuses .entry)) (now (answers .entry)) (now (statuses .exit)) (now (answers .exit)) ⌝ }
+    ensures { λ r. ⌜ Leaves (mapSession (now (map .entry)) (first .0) (callsOf (now (calls .entry))))
+        (r .0) (now (statuses .entry)) (now (answers .entry)) (now (statuses .exit)) (now (answers .exit)) ⌝ }
 {
     survey(map, mates, areas, points);
     run(map, mates, areas, points, first, calls, statuses, answers)
@@ -147,14 +148,14 @@ fn run(
     mates: &[u16],
     areas: &[u16],
     points: &[u16],
-    first: usize,
+    first: Place,
     calls: &[u8],
     statuses: &mut [u8],
     answers: &mut [u16],
-) -> usize
+) -> Place
     requires { ⌜ Surveyed (now map) (now mates) (now areas) (now points) × Room (now calls) (now statuses) (now answers) ⌝ }
-    ensures { λ r. ⌜ Leaves (mapSession (now (map .entry)) first (callsOf (now (calls .entry))))
-        r (now (statuses .entry)) (now (answers .entry)) (now (statuses .exit)) (now (answers .exit)) ⌝ }
+    ensures { λ r. ⌜ Leaves (mapSession (now (map .entry)) (first .0) (callsOf (now (calls .entry))))
+        (r .0) (now (statuses .entry)) (now (answers .entry)) (now (statuses .exit)) (now (answers .exit)) ⌝ }
 {
     let mut place = first;
     let mut i = 0;

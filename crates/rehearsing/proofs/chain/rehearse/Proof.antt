@@ -31,11 +31,11 @@ slice-aggregate-session c =
 session-requires : tie.Need-session-requires
 session-requires c κs = search needs
 
-enum-told : tie.Need-enum-told
-enum-told c = search needs
+enum-known-packed-2 : tie.Need-enum-known-packed-2
+enum-known-packed-2 c = search needs
 
-enum-told-2 : tie.Need-enum-told-2
-enum-told-2 c = search needs
+enum-known-packed-3 : tie.Need-enum-known-packed-3
+enum-known-packed-3 c = search needs
 
 same-length : tie.Need-same-length
 same-length c = search needs
@@ -63,7 +63,7 @@ same-length-6 : tie.Need-same-length-6
 same-length-6 c = search needs
 
 returns-2 : tie.Need-returns-2
-returns-2 c = crossing-rehearsed (packing (c .before .before .before .before .before .before)) _ _ _ _ (c .enum-told .given .1)
+returns-2 c = crossing-rehearsed (packing (c .before .before .before .before .before .before .before)) _ _ _ _ (c .before .packed2 .given .1)
 
 same-length-7 : tie.Need-same-length-7
 same-length-7 c = search needs
@@ -72,7 +72,7 @@ same-length-8 : tie.Need-same-length-8
 same-length-8 c = search needs
 
 returns-3 : tie.Need-returns-3
-returns-3 c = declined-rehearsed (packing (c .before .before .before .before .before .before)) _ _ _ (c .enum-told2 .given .1)
+returns-3 c = declined-rehearsed (packing (c .before .before .before .before .before .before .before)) _ _ _ (c .before .packed3 .given .1)
 
 pub rehearse-spec : {M : Type 1} → statement M
 rehearse-spec =
@@ -83,8 +83,8 @@ rehearse-spec =
     slice-reshare-prefix-session
     slice-aggregate-session
     session-requires
-    enum-told
-    enum-told-2
+    enum-known-packed-2
+    enum-known-packed-3
     same-length
     same-length-2
     same-length-3

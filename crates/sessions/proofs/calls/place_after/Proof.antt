@@ -1,17 +1,17 @@
 -- `sessions::calls::place_after` meets its contract. Assumes nothing.
-use Rattle.sessions.proofs.Telling.{after-move, after-stay}
+use borrow.Author.Needs.{needs}
 use Rattle.sessions.proofs.calls.place_after.Statement.{statement}
 use Rattle.sessions.proofs.calls.place_after.Tie as tie
 
 returns : tie.Need-returns
-returns c = search after-move
+returns c = search needs
 
 returns-2 : tie.Need-returns-2
-returns-2 c = search after-stay
+returns-2 c = search needs
 
+returns-3 : tie.Need-returns-3
+returns-3 c = search needs
+
+-- first, for each case, that it is the one
 pub place-after-spec : {M : Type 1} → statement M
-place-after-spec =
-    tie.close
-    (tie.spec
-    returns
-    returns-2)
+place-after-spec = tie.close (tie.spec (λ c. search needs) (λ c. search needs) (λ c. search needs) returns returns-2 returns-3)

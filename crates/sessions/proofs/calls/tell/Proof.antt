@@ -19,17 +19,14 @@ refused-requires-2 c κs = search needs
 returns-2 : tie.Need-returns-2
 returns-2 c = search tells-past
 
-sub-value-at : tie.Need-sub-value-at
-sub-value-at c = search needs
+sub-found-at : tie.Need-sub-found-at
+sub-found-at c = search needs
 
-value-at-requires : tie.Need-value-at-requires
-value-at-requires c κs = (search needs, search place-at)
+found-at-requires : tie.Need-found-at-requires
+found-at-requires c κs = (search needs, search place-at)
 
-cast-t10 : tie.Need-cast-t10
-cast-t10 c = search needs
-
-place-after-requires : tie.Need-place-after-requires
-place-after-requires c κs = search needs
+answered-requires : tie.Need-answered-requires
+answered-requires c κs = search needs
 
 returns-3 : tie.Need-returns-3
 returns-3 c = search tells-inside
@@ -43,8 +40,7 @@ tell-spec =
     bits-a-requires
     refused-requires-2
     returns-2
-    sub-value-at
-    value-at-requires
-    cast-t10
-    place-after-requires
+    sub-found-at
+    found-at-requires
+    answered-requires
     returns-3)

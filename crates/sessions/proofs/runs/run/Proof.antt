@@ -8,10 +8,11 @@ use Rattle.sessions.proofs.runs.run.Statement.{statement}
 use Rattle.sessions.proofs.runs.run.Tie as tie
 
 abbrev Inv-loop : tie.InvT-loop
-Inv-loop map mates areas points first calls statuses₀ answers₀ place₀ i₀ statuses answers place i = Partway map first calls statuses₀ answers₀ statuses answers place i
+Inv-loop map mates areas points calls statuses₀ answers₀ place₀ i₀ statuses answers place i =
+    Partway map (place₀ .0) calls statuses₀ answers₀ statuses answers (place .0) i
 
 abbrev μ-loop : tie.MeasureT-loop
-μ-loop map mates areas points first calls statuses₀ answers₀ place₀ i₀ statuses answers place i = length calls - i
+μ-loop map mates areas points calls statuses₀ answers₀ place₀ i₀ statuses answers place i = length calls - i
 
 loop-holds : tie.Need-loop-holds Inv-loop μ-loop
 loop-holds c = search partway-start

@@ -12,14 +12,14 @@ returns : tie.Need-returns
 returns c =
     let r = c .before in
     let a = r .before .before .before .before .before .args in
-    session-declines (a .map .now) (a .first) (a .calls .now) (a .statuses .now) (a .answers .now) (r .refusal .result) (r .refusal .ensures .0) (c .if1 .taken)
+    session-declines (a .map .now) (a .first .0) (a .calls .now) (a .statuses .now) (a .answers .now) (r .refusal .result) (r .refusal .ensures .0) (c .if1 .taken)
 
 returns-2 : tie.Need-returns-2
 returns-2 c =
     let e = c .before in
     let r = e .before in
     let a = r .before .before .before .before .before .args in
-    session-short-statuses (a .map .now) (a .first) (a .calls .now) (a .statuses .now) (a .answers .now) (r .refusal .result) (r .refusal .ensures .0)
+    session-short-statuses (a .map .now) (a .first .0) (a .calls .now) (a .statuses .now) (a .answers .now) (r .refusal .result) (r .refusal .ensures .0)
     (e .if1 .left) (omega (arith, c .if2 .taken))
 
 returns-3 : tie.Need-returns-3
@@ -27,7 +27,7 @@ returns-3 c =
     let e = c .before .before in
     let r = e .before in
     let a = r .before .before .before .before .before .args in
-    session-short-answers (a .map .now) (a .first) (a .calls .now) (a .statuses .now) (a .answers .now) (r .refusal .result) (r .refusal .ensures .0)
+    session-short-answers (a .map .now) (a .first .0) (a .calls .now) (a .statuses .now) (a .answers .now) (r .refusal .result) (r .refusal .ensures .0)
     (e .if1 .left) (omega (arith, c .if3 .taken))
 
 are-calls-requires : tie.Need-are-calls-requires
@@ -40,7 +40,7 @@ returns-4 c =
     let e = f .before .before in
     let r = e .before in
     let a = r .before .before .before .before .before .args in
-    session-no-call (a .map .now) (a .first) (a .calls .now) (a .statuses .now) (a .answers .now) (r .refusal .result) (r .refusal .ensures .0)
+    session-no-call (a .map .now) (a .first .0) (a .calls .now) (a .statuses .now) (a .answers .now) (r .refusal .result) (r .refusal .ensures .0)
     (e .if1 .left) (omega (arith, f .before .if2 .left)) (omega (arith, f .if3 .left)) (k .are-calls .result) (k .are-calls .ensures) (c .if4 .taken)
 
 run-open-requires : tie.Need-run-open-requires
@@ -61,9 +61,9 @@ returns-5 c =
     let e = f .before .before in
     let r = e .before in
     let a = r .before .before .before .before .before .args in
-    session-answers (a .map .now) (a .first) (a .calls .now) (a .statuses .now) (a .answers .now) (r .refusal .result) (r .refusal .ensures .0)
+    session-answers (a .map .now) (a .first .0) (a .calls .now) (a .statuses .now) (a .answers .now) (r .refusal .result) (r .refusal .ensures .0)
     (e .if1 .left) (omega (arith, f .before .if2 .left)) (omega (arith, f .if3 .left)) (k .are-calls .result) (k .are-calls .ensures)
-    (n .run-open .result) _ _ (o .if4 .left) (n .run-open .ensures)
+    (n .run-open .result .0) _ _ (o .if4 .left) (n .run-open .ensures)
 
 pub session-spec : {M : Type 1} → statement M
 session-spec =

@@ -1,14 +1,14 @@
--- `sessions::calls::value_at` meets its contract. Assumes nothing.
-use Rattle.sessions.proofs.Telling.{value-cross, value-turn, value-turn-back, value-along, value-point, value-area}
+-- `sessions::calls::found_at` meets its contract. Assumes nothing.
+use Rattle.sessions.proofs.Telling.{found-cross, found-turn, found-turn-back, found-along, found-point, found-area}
 use borrow.Author.Needs.{needs}
-use Rattle.sessions.proofs.calls.value_at.Statement.{statement}
-use Rattle.sessions.proofs.calls.value_at.Tie as tie
+use Rattle.sessions.proofs.calls.found_at.Statement.{statement}
+use Rattle.sessions.proofs.calls.found_at.Tie as tie
 
 own-mate-in-requires : tie.Need-own-mate-in-requires
 own-mate-in-requires c κs = search needs
 
-add-result : tie.Need-add-result
-add-result c = search needs
+add-t9 : tie.Need-add-t9
+add-t9 c = search needs
 
 turn-in-requires : tie.Need-turn-in-requires
 turn-in-requires c κs = search needs
@@ -19,8 +19,8 @@ turn-back-in-requires c κs = search needs
 step-in-requires : tie.Need-step-in-requires
 step-in-requires c κs = search needs
 
-add-result-2 : tie.Need-add-result-2
-add-result-2 c = search needs
+add-t15 : tie.Need-add-t15
+add-t15 c = search needs
 
 point-in-requires : tie.Need-point-in-requires
 point-in-requires c κs = search needs
@@ -29,33 +29,33 @@ area-in-requires : tie.Need-area-in-requires
 area-in-requires c κs = search needs
 
 returns : tie.Need-returns
-returns c = search value-cross
+returns c = search found-cross
 
 returns-2 : tie.Need-returns-2
-returns-2 c = search value-turn
+returns-2 c = search found-turn
 
 returns-3 : tie.Need-returns-3
-returns-3 c = search value-turn-back
+returns-3 c = search found-turn-back
 
 returns-4 : tie.Need-returns-4
-returns-4 c = search value-along
+returns-4 c = search found-along
 
 returns-5 : tie.Need-returns-5
-returns-5 c = search value-point
+returns-5 c = search found-point
 
 returns-6 : tie.Need-returns-6
-returns-6 c = search value-area
+returns-6 c = search found-area
 
-pub value-at-spec : {M : Type 1} → statement M
-value-at-spec =
+pub found-at-spec : {M : Type 1} → statement M
+found-at-spec =
     tie.close
     (tie.spec
     own-mate-in-requires
-    add-result
+    add-t9
     turn-in-requires
     turn-back-in-requires
     step-in-requires
-    add-result-2
+    add-t15
     point-in-requires
     area-in-requires
     returns
