@@ -1,6 +1,6 @@
 -- One border looked across: nothing new is reached, or one point more.
 --
--- allowed-marked, allowed-every == which borders are in the set
+-- allowed-has, allowed-past == a border that has a mark may be crossed if it is 1; one that has none may be crossed
 -- crossed-out, crossed-old == nothing new: the border is not in the set, or leads to a point that was reached before
 -- noted h w        == the working list with h's border noted
 -- noted-queue, noted-whole == its flags and its queue are as they were
@@ -12,7 +12,7 @@ use mathlib.Core.Bool.{Bool, true, false, not}
 use mathlib.Core.List.{List}
 use Prim.Native.Nat.{ℕ, _+_, _*_, _/_, _^_, _<_, _≤_}
 use native.Mathlib.Omega.{arith}
-use borrow.Author.Tests.{eq-eqb}
+use borrow.Author.Tests.{eq-eqb, le-leb, lt-leb}
 use lib.Dec.{eqb}
 use lib.ListN.{length, getD, set, length-set}
 use lib.Seq.{getD-set-same, getD-set-other}
@@ -30,23 +30,22 @@ use Rattle.lending.proofs.Kept.{kept-none}
 use Rattle.checking.specs.Lent.{next, Turns}
 use Rattle.checking.proofs.Laws.{turns-permute}
 use Rattle.checking.proofs.Decided.{passes, fails}
-use Rattle.reaching.specs.declared.search.Borders.{Borders}
-use Rattle.reaching.specs.declared.search.Borders.the-variants as the-set
 use Rattle.reaching.specs.Queue.{IsFlagged, Queued, least, Whole, Gathered}
 use Rattle.reaching.specs.Reaching.{allowed, treeAt, treeIn, Reached, Crossed}
 use Rattle.reaching.proofs.Queue.{queue-same, queue-few}
 use Rattle.reaching.proofs.Points.{leading, leading-more}
 
-pub allowed-marked : (which : Borders) (ms : List ℕ) (e : ℕ) → which ≡ the-set.Marked → marked ms e ≡ allowed which ms e
-unfolding allowed
-allowed-marked which ms e q = rw q refl
+module _ (ms : List ℕ) (e : ℕ) where
+  pub allowed-has : e < length ms → marked ms e ≡ allowed ms e
+  unfolding allowed
+  allowed-has l = rw (lt-leb (length ms) e l) refl
 
-pub allowed-every : (which : Borders) (ms : List ℕ) (e : ℕ) → which ≡ the-set.Every → true ≡ allowed which ms e
-unfolding allowed
-allowed-every which ms e q = rw q refl
+  pub allowed-past : length ms ≤ e → true ≡ allowed ms e
+  unfolding allowed
+  allowed-past l = rw (le-leb (length ms) e l) refl
 
-module _ (ts ms : List ℕ) (S : ℕ → Bool) (h : ℕ) (w : List ℕ) (k n : ℕ) (R : Reached ts ms S w k n) where
-  crossed-none : (S (border h) ≡ true → IsFlagged w (other h)) → Crossed ts ms S h w k w k n
+module _ (ts : List ℕ) (m : ℕ) (S : ℕ → Bool) (h : ℕ) (w : List ℕ) (k n : ℕ) (R : Reached ts m S w k n) where
+  crossed-none : (S (border h) ≡ true → IsFlagged w (other h)) → Crossed ts m S h w k w k n
   crossed-none f =
       record {
         reached = R;
@@ -58,19 +57,19 @@ module _ (ts ms : List ℕ) (S : ℕ → Bool) (h : ℕ) (w : List ℕ) (k n : �
       }
 
   -- a border that is not in the set, and one to a point that was reached before
-  pub crossed-out : (t : Bool) → t ≡ S (h / 2) → not t ≡ true → Crossed ts ms S h w k w k n
+  pub crossed-out : (t : Bool) → t ≡ S (h / 2) → not t ≡ true → Crossed ts m S h w k w k n
   unfolding border
   crossed-out t e q = crossed-none (λ y. absurd (true-not-false (S (h / 2)) y (fails t (S (h / 2)) e q)))
 
-  pub crossed-old : (o : ℕ) → o ≡ other h → (getD w o 0 ≡ 0 → ⊥) → Crossed ts ms S h w k w k n
+  pub crossed-old : (o : ℕ) → o ≡ other h → (getD w o 0 ≡ 0 → ⊥) → Crossed ts m S h w k w k n
   crossed-old o e f = crossed-none (λ y. rw e at f)
 
-  module _ (P : Turns ts) (half : length ts ≡ 2 * length ms) (l : h < length ts) where
-    pub cross-border : border h < length ms
-    cross-border = border-below (length ms) h (rw half at l)
+  module _ (P : Turns ts) (half : length ts ≡ 2 * m) (l : h < length ts) where
+    cross-border : border h < m
+    cross-border = border-below m h (rw half at l)
 
     pub cross-beyond : (o : ℕ) → o ≡ other h → o < length ts
-    cross-beyond o e = rw (e, half) (other-below (length ms) h (rw half at l))
+    cross-beyond o e = rw (e, half) (other-below m h (rw half at l))
 
     pub cross-in : (o : ℕ) → o ≡ other h → o < length w
     cross-in o e = omega (arith, cross-beyond o e, R .room)
@@ -148,20 +147,21 @@ module _ (ts ms : List ℕ) (S : ℕ → Bool) (h : ℕ) (w : List ℕ) (k n : �
             | inr q ↦ q
           ]
 
-      linked : (s x : ℕ) → x < all → IsFlagged v x → Linked (lent ts ms s) (treeIn all v) 0 x
+      linked : (ms : List ℕ) → length ms ≡ m → (s x : ℕ) → x < all → IsFlagged v x → Linked (lent ts ms s) (treeIn all v) 0 x
       unfolding ends borders turn
-      linked s x b g =
+      linked ms sized s x b g =
           let D : Drawing = lent ts ms s in
-          let p = turns-permute ts ms s P half in
+          let two : all ≡ 2 * length ms = omega arith in
+          let p = turns-permute ts ms s P two in
           let b0 : 0 < 2 * length ms = omega arith in
           let old : (y : ℕ) → y < all → IsFlagged w y → Linked D (treeIn all v) 0 y
-          = λ y by fy. linked-within D D (treeIn all w) (treeIn all v) p refl (λ e l q. in-more e q) 0 y b0 (R .linked s y by fy) in
+          = λ y by fy. linked-within D D (treeIn all w) (treeIn all v) p refl (λ e l q. in-more e q) 0 y b0 (R .linked ms sized s y by fy) in
           elim (new x b g) [
             | inl i ↦ old x b i
             | inr e ↦
                 let there : Linked D (treeIn all v) 0 (other h) = across h in-here (old h l f) in
                 linked-trans D (treeIn all v) p 0 o x (rw is there)
-                (cycle-linked D (treeIn all v) p o x (rw half at bo) (low-same-cycle P o x bo b (sym e)))
+                (cycle-linked D (treeIn all v) p o x (rw two at bo) (low-same-cycle P o x bo b (sym e)))
           ]
 
       both-ends : (g : ℕ) → g < all → treeIn all v (border g) ≡ true → IsFlagged v g
@@ -175,18 +175,18 @@ module _ (ts ms : List ℕ) (S : ℕ → Bool) (h : ℕ) (w : List ℕ) (k n : �
             | inr d ↦ stays g b (R .both g b (sym (in-other (border g) d) ∙ q))
           ]
 
-      binary : (e : ℕ) → e < length ms → treeAt all v e ≤ 1
+      binary : (e : ℕ) → e < m → treeAt all v e ≤ 1
       binary e b =
           elim (same-or-not e (border h)) [
             | inl s ↦ rw (s, tree-here) (omega arith)
             | inr d ↦ rw (tree-other e d) (R .binary e b)
           ]
 
-      one-more : count (treeIn all w) (length ms) + 1 ≡ count (treeIn all v) (length ms)
+      one-more : count (treeIn all w) m + 1 ≡ count (treeIn all v) m
       one-more =
-          count-one-less (treeIn all v) (treeIn all w) (length ms) (border h) cross-border in-here in-none (λ e b d. in-other e d)
+          count-one-less (treeIn all v) (treeIn all w) m (border h) cross-border in-here in-none (λ e b d. in-other e d)
 
-      reached : Reached ts ms S v r (n + 1)
+      reached : Reached ts m S v r (n + 1)
       reached =
           record {
             queue = G .longer .queue;
@@ -202,7 +202,7 @@ module _ (ts ms : List ℕ) (S : ℕ → Bool) (h : ℕ) (w : List ℕ) (k n : �
             points = omega (arith, R .points, leading-more ts P w v o bo (R .whole) (G .whole) z (G .here) stays new);
           }
 
-      pub crossed-new : Crossed ts ms S h w k v r (n + 1)
+      pub crossed-new : Crossed ts m S h w k v r (n + 1)
       crossed-new =
           record {
             reached = reached;

@@ -6,7 +6,7 @@
 //
 // Conventions. A drawing is lent as its turning list and its marks; in a contract it is `lent`, with any start. Both ask
 // for what checks 1 to 4 have found. The first 6m entries of the working list, three for each end, are 0 where it is lent,
-// and it is left as it was.
+// and it is left as it was. `find_tree` writes its marks and lends them to no search.
 //
 // The definitions that the contracts cite are in specs/ and in the crate `drawing`; 4 is in the crate `checking`.
 mod search;

@@ -1,19 +1,15 @@
-// The search: point after point, over the borders of a set. The first third of the working list flags the ends reached, the
-// second queues them, the last notes the borders across which a point was first reached.
+// The search: point after point, over the borders that the marks lent allow; where none are lent, over all. The first third of
+// the working list flags the ends reached, the second queues them, the last notes the borders across which a point was first
+// reached.
 use checking::other;
 ghost use mathlib.Core.Path.{_≡_};
+ghost use mathlib.Core.List.{List};
 ghost use Prim.Native.Nat.{ℕ, _*_, _<_};
 ghost use lib.ListN.{length};
 ghost use Rattle.lending.specs.Lists.{Blank, Kept};
 ghost use Rattle.checking.specs.Lent.{Turns};
 ghost use Rattle.reaching.specs.Queue.{IsFlagged, Queued, Whole, Gathered};
-ghost use Rattle.reaching.specs.Reaching.{allowed, Reached, Crossed, Spread};
-
-// The borders that may be crossed.
-pub enum Borders {
-    Marked,
-    Every,
-}
+ghost use Rattle.reaching.specs.Reaching.{allowed, bordersOf, Reached, Crossed, Spread};
 
 // How many ends are reached, and how many points.
 pub struct Reach {
@@ -21,13 +17,14 @@ pub struct Reach {
     pub points: usize,
 }
 
-// The search from end 0. Without borders there is one point, and no end.
-pub fn spread(turning: &[u16], which: Borders, marks: &[u8], work: &mut [u16]) -> Reach
+// The search from end 0, over the borders that the marks lent allow. What is found of these borders holds whatever marks the
+// drawing has. Without borders there is one point, and no end.
+pub fn spread(turning: &[u16], marks: &[u8], work: &mut [u16]) -> Reach
     requires { ⌜ Turns (now turning)
-        × (length (now turning) ≡ 2 * length (now marks))
+        × (length (now turning) ≡ 2 * bordersOf (now turning))
         × Blank (3 * length (now turning)) (now work) ⌝ }
-    ensures { λ r. ⌜ ((s : ℕ) → Spread (now (turning .entry)) (now (marks .entry)) s (allowed which (now (marks .entry)))
-        (now (work .exit)) (r .ends) (r .points)) ⌝ }
+    ensures { λ r. ⌜ ((ms : List ℕ) (s : ℕ) → length (now (turning .entry)) ≡ 2 * length ms
+        → Spread (now (turning .entry)) ms s (allowed (now (marks .entry))) (now (work .exit)) (r .ends) (r .points)) ⌝ }
     ensures { λ _. ⌜ Kept (3 * length (now (turning .entry))) (now (work .entry)) (now (work .exit)) ⌝ }
 {
     let ends = turning.len();
@@ -39,7 +36,7 @@ pub fn spread(turning: &[u16], which: Borders, marks: &[u8], work: &mut [u16]) -
     let mut head = 0;
     while head < tail {
         let h = work[ends + head];
-        let reached = cross(turning, which, marks, work, tail, points, h);
+        let reached = cross(turning, marks, work, tail, points, h);
         tail = reached.ends;
         points = reached.points;
         head += 1;
@@ -53,7 +50,6 @@ pub fn spread(turning: &[u16], which: Borders, marks: &[u8], work: &mut [u16]) -
 // Looks across the border of end h. If that leads to a point that was not reached before, its ends are queued.
 fn cross(
     turning: &[u16],
-    which: Borders,
     marks: &[u8],
     work: &mut [u16],
     tail: usize,
@@ -61,15 +57,15 @@ fn cross(
     h: u16,
 ) -> Reach
     requires { ⌜ Turns (now turning)
-        × (length (now turning) ≡ 2 * length (now marks))
+        × (length (now turning) ≡ 2 * bordersOf (now turning))
         × (h < length (now turning))
         × IsFlagged (now work) h
-        × Reached (now turning) (now marks) (allowed which (now marks)) (now work) tail points ⌝ }
-    ensures { λ r. ⌜ Crossed (now (turning .entry)) (now (marks .entry)) (allowed which (now (marks .entry))) h
+        × Reached (now turning) (bordersOf (now turning)) (allowed (now marks)) (now work) tail points ⌝ }
+    ensures { λ r. ⌜ Crossed (now (turning .entry)) (bordersOf (now (turning .entry))) (allowed (now (marks .entry))) h
         (now (work .entry)) tail (now (work .exit)) (r .ends) (r .points) ⌝ }
 {
     let e = h as usize / 2;
-    if !may_cross(which, marks, e) {
+    if !may_cross(marks, e) {
         return Reach {
             ends: tail,
             points: points,
@@ -89,15 +85,14 @@ fn cross(
     }
 }
 
-// Whether border e may be crossed. The marks are looked at only where they say so.
-fn may_cross(which: Borders, marks: &[u8], e: usize) -> bool
-    requires { ⌜ e < length (now marks) ⌝ }
-    ensures { λ r. ⌜ r ≡ allowed which (now (marks .entry)) e ⌝ }
+// Whether border e may be crossed: it is marked, or no mark is lent for it.
+fn may_cross(marks: &[u8], e: usize) -> bool
+    ensures { λ r. ⌜ r ≡ allowed (now (marks .entry)) e ⌝ }
 {
-    match which {
-        Borders::Marked => marks[e] == 1,
-        Borders::Every => true,
+    if e >= marks.len() {
+        return true;
     }
+    marks[e] == 1
 }
 
 // Flags and queues the ends of h's point, unless they are flagged already. The new length of the queue.

@@ -1,7 +1,8 @@
-// What the search tells: whether the borders of a set join all points, how many points there are, and the marks of a tree.
-use crate::search::Borders;
+// What the search tells: whether the marked borders join all points, and how many points there are; whether all borders do, and
+// the marks of a tree. For the second it is lent no marks.
 use crate::search::spread;
 ghost use mathlib.Core.Path.{_≡_};
+ghost use mathlib.Core.List.{List};
 ghost use Prim.Native.Nat.{ℕ, _+_, _*_};
 ghost use lib.ListN.{length, getD};
 ghost use Rattle.count.specs.Below.{pick, table};
@@ -10,7 +11,7 @@ ghost use Rattle.drawing.specs.Drawing.{cells, lent};
 ghost use Rattle.drawing.specs.Checks.{joined};
 ghost use Rattle.lending.specs.Lists.{Blank, Kept};
 ghost use Rattle.checking.specs.Lent.{Turns};
-ghost use Rattle.reaching.specs.Reaching.{MarksAt, FindsTree};
+ghost use Rattle.reaching.specs.Reaching.{bordersOf, MarksAt, NotesTree, FindsTree};
 
 // 5 and 6: how many points there are if the marked borders join them all, else 0.
 pub fn joined_points(turning: &[u16], marks: &[u8], work: &mut [u16]) -> usize
@@ -22,7 +23,7 @@ pub fn joined_points(turning: &[u16], marks: &[u8], work: &mut [u16]) -> usize
     ensures { λ _. ⌜ now (work .exit) ≡ now (work .entry) ⌝ }
 {
     let ends = turning.len();
-    let reached = spread(turning, Borders::Marked, marks, work);
+    let reached = spread(turning, marks, work);
     lending::clear(work, 3 * ends);
     if reached.ends != ends {
         return 0;
@@ -38,26 +39,27 @@ pub fn find_tree(turning: &[u16], marks: &mut [u8], work: &mut [u16]) -> bool
     ensures { λ r. ⌜ ((s : ℕ) → FindsTree (lent (now (turning .entry)) (now (marks .entry)) s) r (now (marks .exit))) ⌝ }
     ensures { λ _. ⌜ now (work .exit) ≡ now (work .entry) ⌝ }
 {
-    let joins = mark_tree(turning, marks, work);
+    let found = note_tree(turning, work);
+    if found {
+        write_marks(work, 2 * turning.len(), marks);
+    }
     lending::clear(work, 3 * turning.len());
-    joins
+    found
 }
 
-// The same, and the working list is left as the search leaves it.
-fn mark_tree(turning: &[u16], marks: &mut [u8], work: &mut [u16]) -> bool
+// Whether all borders join all points. If they do, a spanning tree is noted in the working list's last third. No marks are lent:
+// what is found holds whatever marks the drawing has.
+fn note_tree(turning: &[u16], work: &mut [u16]) -> bool
     requires { ⌜ Turns (now turning)
-        × (length (now turning) ≡ 2 * length (now marks))
+        × (length (now turning) ≡ 2 * bordersOf (now turning))
         × Blank (3 * length (now turning)) (now work) ⌝ }
-    ensures { λ r. ⌜ ((s : ℕ) → FindsTree (lent (now (turning .entry)) (now (marks .entry)) s) r (now (marks .exit))) ⌝ }
+    ensures { λ r. ⌜ ((ms : List ℕ) (s : ℕ) → length (now (turning .entry)) ≡ 2 * length ms
+        → NotesTree (lent (now (turning .entry)) ms s) r (now (work .exit))) ⌝ }
     ensures { λ _. ⌜ Kept (3 * length (now (turning .entry))) (now (work .entry)) (now (work .exit)) ⌝ }
 {
-    let ends = turning.len();
-    let reached = spread(turning, Borders::Every, marks, work);
-    if reached.ends != ends {
-        return false;
-    }
-    write_marks(work, 2 * ends, marks);
-    true
+    let none = [0u8; 0];
+    let reached = spread(turning, &none, work);
+    reached.ends == turning.len()
 }
 
 // Writes a mark for each border, as the working list has it from an entry on.

@@ -1,13 +1,12 @@
 -- `reaching::search::cross` meets its contract. Assumes nothing.
 use borrow.Author.Needs.{needs}
 use Rattle.drawing.specs.Drawing.{border}
-use Rattle.reaching.proofs.Step.{crossed-out, crossed-old, cross-border, cross-beyond, cross-in, cross-entry, noted-queue, noted-whole, cross-length, cross-points, crossed-new}
+use Rattle.reaching.proofs.Step.{crossed-out, crossed-old, cross-beyond, cross-in, cross-entry, noted-queue, noted-whole, cross-length, cross-points, crossed-new}
 use Rattle.reaching.proofs.search.cross.Statement.{statement}
 use Rattle.reaching.proofs.search.cross.Tie as tie
 
 may-cross-requires : tie.Need-may-cross-requires
-unfolding border
-may-cross-requires c κs = let p = c .before .before .before .pre in cross-border _ _ _ _ _ _ _ (p .4) (p .0) (p .1) (p .2)
+may-cross-requires c κs = search needs
 
 returns : tie.Need-returns
 returns c =
@@ -59,8 +58,8 @@ gather-requires c κs =
       noted-whole _ _ _ _ _ _ _ (p .4) (p .0) (p .1) (p .2),
     )
 
-add-t17 : tie.Need-add-t17
-add-t17 c =
+add-t16 : tie.Need-add-t16
+add-t16 c =
     let e = c .before .before .before .before in
     let p = e .before .before .before .before .before .before .before .before .pre in
     cross-points _ _ _ _ _ _ _ (p .4) (p .0) (p .1) (p .2) (search needs)
@@ -98,6 +97,6 @@ cross-spec =
     mul-work-2
     slice-write-work
     gather-requires
-    add-t17
+    add-t16
     same-length
     returns-3)

@@ -4,23 +4,23 @@ use Prim.Native.Nat.{_-_}
 use lib.ListN.{length}
 use borrow.Author.Needs.{needs}
 use Rattle.lending.proofs.Kept.{kept-none}
-use Rattle.reaching.specs.Reaching.{allowed}
+use Rattle.reaching.specs.Reaching.{allowed, bordersOf}
 use Rattle.reaching.proofs.Queue.{queue-none, queue-few}
 use Rattle.reaching.proofs.Reach.{Searching, blank-whole, spread-none, search-start, search-next, search-flagged, search-at, search-more, search-kept, search-spread}
 use Rattle.reaching.proofs.search.spread.Statement.{statement}
 use Rattle.reaching.proofs.search.spread.Tie as tie
 
 abbrev Inv-loop : tie.InvT-loop
-Inv-loop turning which marks work₀ ends tail₀ points₀ head₀ work tail points head =
-    Searching turning marks (allowed which marks) work₀ work tail points head
+Inv-loop turning marks work₀ ends tail₀ points₀ head₀ work tail points head =
+    Searching turning (bordersOf turning) (allowed marks) work₀ work tail points head
 
 abbrev μ-loop : tie.MeasureT-loop
-μ-loop turning which marks work₀ ends tail₀ points₀ head₀ work tail points head = length turning - head
+μ-loop turning marks work₀ ends tail₀ points₀ head₀ work tail points head = length turning - head
 
 returns : tie.Need-returns Inv-loop μ-loop
 returns c =
     let p = c .before .before .before .before .pre in
-    (spread-none _ _ _ (p .0) (p .1) _ (p .2) (c .if1 .taken), kept-none _ _)
+    (spread-none _ _ _ (p .2) (c .if1 .taken), kept-none _ _)
 
 gather-requires : tie.Need-gather-requires Inv-loop μ-loop
 gather-requires c κs =
