@@ -132,7 +132,7 @@ enum {
  * any start that is an end (0 if m is 0) the drawing passes 1 to 6, so that pmap_pack packs it or answers 7.
  *
  * m is marks_len, and turning_len is to be 2m. What `marks` holds before is not read: the status does not depend on it, and
- * with 0 every mark is overwritten. (Nor does the tree depend on it; as the tree is left open, that is tested and not proved.)
+ * with 0 every mark is overwritten. Nor does the tree depend on it: the search that finds it is lent no marks. Both are proved.
  * With any refusal `marks` is left as it was. `work` is a working list of at least 6m entries, left as by pmap_pack: with 1, 2
  * and 3 as it was; after any other outcome, success too, its first 6m entries are 0 and the rest is as it was. Of the drawings
  * that pass 1 to 4, those whose points are all joined by paths of borders get marks, and exactly the others get 21.
