@@ -3,4 +3,3 @@ pub mod Cases
 pub mod Checked
 pub mod Coded
 pub mod Passing
-pub mod Telling

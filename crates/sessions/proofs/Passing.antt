@@ -20,8 +20,8 @@ use Rattle.drawing.specs.Session.{Call, placeAfter, session}
 use Rattle.format.specs.Calls.{mapAnswer, mapSession}
 use Rattle.format.specs.Sessions.{callOf, callsOf, statusesOf, valuesOf}
 use Rattle.sessions.specs.Runs.{Room, Leaves}
-use Rattle.sessions.specs.Told.{Gives}
-use Rattle.sessions.specs.declared.calls.Told.{Told}
+use Rattle.calling.specs.Told.{Gives}
+use Rattle.calling.specs.declared.calls.Told.{Told}
 
 laid-here : (x : ℕ) (xs st : List ℕ) (i : ℕ) → i < length st
     → take (i + 1) (set st i x) ++ laid xs (drop (i + 1) (set st i x)) ≡ take i st ++ laid (x ∷ xs) (drop i st)

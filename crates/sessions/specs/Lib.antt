@@ -1,4 +1,2 @@
--- Sessions on a packed map: the lists lent to one, and what one call of it gives.
-pub mod Lists
+-- Sessions on a packed map: the lists lent to one.
 pub mod Runs
-pub mod Told

@@ -1,18 +1,7 @@
-// The codes of the calls, in the order in which document 01, "Moves", has them.
+// Whether bytes are codes of calls.
+use calling::AREA;
 ghost use mathlib.Core.Path.{_≡_};
 ghost use Rattle.format.specs.Sessions.{areCalls};
-
-pub const CROSS: u8 = 0;
-
-pub const TURN: u8 = 1;
-
-pub const TURN_BACK: u8 = 2;
-
-pub const ALONG: u8 = 3;
-
-pub const POINT: u8 = 4;
-
-pub const AREA: u8 = 5;
 
 // The refusal of a byte that is the code of no call. The numbers of document 01's table end at 17.
 pub const NO_CALL: u8 = 255;

@@ -12,20 +12,19 @@
 //
 // The bytes are checked once, before the first call. Where there are many calls, one pass over the map then finds
 // the mate, the area and the point of every place, in lists on the stack (the crate `surveying`), and each call
-// looks up in them; few calls walk through the bytes.
+// looks up in them (the crate `calling`); few calls walk through the bytes.
 //
 // The source is document 01, "The drawing's book": "A session is a first number and a list of calls"; "on the
 // packed map too the place passes from call to call as in the book". The crate `format`, specs/Sessions, has the
 // codes and what `session` answers; the crate `answers`, specs/Lent, what the lists hold after it.
-mod calls;
 mod codes;
 mod runs;
 
-pub use codes::ALONG;
-pub use codes::AREA;
-pub use codes::CROSS;
+pub use calling::ALONG;
+pub use calling::AREA;
+pub use calling::CROSS;
+pub use calling::POINT;
+pub use calling::TURN;
+pub use calling::TURN_BACK;
 pub use codes::NO_CALL;
-pub use codes::POINT;
-pub use codes::TURN;
-pub use codes::TURN_BACK;
 pub use runs::session;

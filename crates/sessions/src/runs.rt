@@ -1,9 +1,9 @@
 // A session: the checks, once, then one call after the other, with the place passed on.
-use crate::calls::tell;
 use crate::codes::NO_CALL;
 use crate::codes::are_calls;
 use answers::Place;
 use answers::PlaceAnswer;
+use calling::tell;
 use layout::bits_a;
 use surveying::survey;
 ghost use mathlib.Core.Path.{_≡_};
@@ -15,7 +15,7 @@ ghost use Rattle.drawing.specs.Session.{Outcome};
 ghost use Rattle.format.specs.Calls.{mapSession};
 ghost use Rattle.format.specs.Open.{openRefusal};
 ghost use Rattle.format.specs.Sessions.{callsOf, ranOf, statusesOf, valuesOf};
-ghost use Rattle.sessions.specs.Lists.{Surveyed};
+ghost use Rattle.calling.specs.Lists.{Surveyed};
 ghost use Rattle.sessions.specs.Runs.{Room, Leaves};
 
 // A list of calls is short that has fewer than FEW, and one more for so many places: a call that walks through the bytes takes

@@ -24,8 +24,8 @@ ghost use Rattle.format.specs.Calls.{moveIn, mapAnswer};
 ghost use Rattle.format.specs.Sessions.{callOf};
 ghost use Rattle.surveying.specs.Surveyed.{Mates};
 ghost use Rattle.walking.specs.Positions.{Position};
-ghost use Rattle.sessions.specs.Lists.{Surveyed};
-ghost use Rattle.sessions.specs.Told.{foundNumber, placeFrom, Finds, Gives};
+ghost use Rattle.calling.specs.Lists.{Surveyed};
+ghost use Rattle.calling.specs.Told.{foundNumber, placeFrom, Finds, Gives};
 
 // What a call answers at a place: a move another place, the others its point or its area.
 pub enum Found {

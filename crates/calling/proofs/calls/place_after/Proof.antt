@@ -1,7 +1,7 @@
--- `sessions::calls::place_after` meets its contract. Assumes nothing.
+-- `calling::calls::place_after` meets its contract. Assumes nothing.
 use borrow.Author.Needs.{needs}
-use Rattle.sessions.proofs.calls.place_after.Statement.{statement}
-use Rattle.sessions.proofs.calls.place_after.Tie as tie
+use Rattle.calling.proofs.calls.place_after.Statement.{statement}
+use Rattle.calling.proofs.calls.place_after.Tie as tie
 
 returns : tie.Need-returns
 returns c = search needs

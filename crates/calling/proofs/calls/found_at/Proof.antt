@@ -1,8 +1,8 @@
--- `sessions::calls::found_at` meets its contract. Assumes nothing.
-use Rattle.sessions.proofs.Telling.{found-cross, found-turn, found-turn-back, found-along, found-point, found-area}
+-- `calling::calls::found_at` meets its contract. Assumes nothing.
+use Rattle.calling.proofs.Telling.{found-cross, found-turn, found-turn-back, found-along, found-point, found-area}
 use borrow.Author.Needs.{needs}
-use Rattle.sessions.proofs.calls.found_at.Statement.{statement}
-use Rattle.sessions.proofs.calls.found_at.Tie as tie
+use Rattle.calling.proofs.calls.found_at.Statement.{statement}
+use Rattle.calling.proofs.calls.found_at.Tie as tie
 
 own-mate-in-requires : tie.Need-own-mate-in-requires
 own-mate-in-requires c κs = search needs

@@ -1,8 +1,8 @@
--- `sessions::calls::turn_back_in` meets its contract. Assumes nothing.
+-- `calling::calls::turn_back_in` meets its contract. Assumes nothing.
 use Rattle.walking.proofs.Turns.{back-start}
 use borrow.Author.Needs.{needs}
-use Rattle.sessions.proofs.calls.turn_back_in.Statement.{statement}
-use Rattle.sessions.proofs.calls.turn_back_in.Tie as tie
+use Rattle.calling.proofs.calls.turn_back_in.Statement.{statement}
+use Rattle.calling.proofs.calls.turn_back_in.Tie as tie
 
 returns : tie.Need-returns
 returns c = search back-start

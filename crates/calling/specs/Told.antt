@@ -11,8 +11,8 @@ use Rattle.answers.specs.Answer.{Answer, answer, numberOf, valueOf}
 use Rattle.words.specs.Word.{Word}
 use Rattle.drawing.specs.Session.{Call, placeAfter}
 use Rattle.format.specs.Calls.{moveIn}
-use Rattle.sessions.specs.declared.calls.Found.{Found}
-use Rattle.sessions.specs.declared.calls.Told.{Told}
+use Rattle.calling.specs.declared.calls.Found.{Found}
+use Rattle.calling.specs.declared.calls.Told.{Told}
 
 abbrev pub foundNumber : Found → ℕ
 foundNumber (Found.To p) = p .0

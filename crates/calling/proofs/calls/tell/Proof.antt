@@ -1,8 +1,8 @@
--- `sessions::calls::tell` meets its contract. Assumes nothing.
-use Rattle.sessions.proofs.Telling.{tells-no-place, tells-past, place-at, tells-inside}
+-- `calling::calls::tell` meets its contract. Assumes nothing.
+use Rattle.calling.proofs.Telling.{tells-no-place, tells-past, place-at, tells-inside}
 use borrow.Author.Needs.{needs}
-use Rattle.sessions.proofs.calls.tell.Statement.{statement}
-use Rattle.sessions.proofs.calls.tell.Tie as tie
+use Rattle.calling.proofs.calls.tell.Statement.{statement}
+use Rattle.calling.proofs.calls.tell.Tie as tie
 
 refused-requires : tie.Need-refused-requires
 refused-requires c κs = search needs

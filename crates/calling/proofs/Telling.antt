@@ -34,10 +34,10 @@ use Rattle.format.specs.Sessions.{callOf}
 use Rattle.format.proofs.Places.{atPlace}
 use Rattle.walking.specs.Positions.{Position}
 use Rattle.walking.proofs.Decoded.{places-most}
-use Rattle.sessions.specs.Lists.{Surveyed}
-use Rattle.sessions.specs.Told.{foundNumber, placeFrom, Finds, Gives}
-use Rattle.sessions.specs.declared.calls.Found.{Found}
-use Rattle.sessions.specs.declared.calls.Told.{Told}
+use Rattle.calling.specs.Lists.{Surveyed}
+use Rattle.calling.specs.Told.{foundNumber, placeFrom, Finds, Gives}
+use Rattle.calling.specs.declared.calls.Found.{Found}
+use Rattle.calling.specs.declared.calls.Told.{Told}
 
 -- ---- codes
 area-code : (k : ℕ) → (k ≡ 0 → ⊥) → (k ≡ 1 → ⊥) → (k ≡ 2 → ⊥) → (k ≡ 3 → ⊥) → (k ≡ 4 → ⊥) → callOf k ≡ Call.area

@@ -1,0 +1,2 @@
+-- One call of a session: laws.
+pub mod Telling
