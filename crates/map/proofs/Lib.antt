@@ -1,4 +1,3 @@
--- Moves and numbers on a packed map: the laws.
-pub mod Moved
+-- Points and areas of a packed map, and joining borders: the laws.
 pub mod Cells
 pub mod Joins

@@ -14,20 +14,19 @@
 //
 // The source is document 01, "Moves", for the answers, with document 02, 3/14, for the neighbours, and
 // 01's table, rows 8 to 15, with document 02, 6/14, for the checks. The definitions that the contracts
-// cite are those of the crate `format`. The types, their meaning and the checks are those of `opening`.
-mod moves;
+// cite are those of the crate `format`. The checks are those of `opening`; what is asked at a place is in the crate `moving`.
 mod numbers;
 mod search;
 
-pub use moves::along;
-pub use moves::cross;
-pub use moves::turn;
-pub use moves::turn_back;
-pub use numbers::area_at;
+pub use moving::along;
+pub use moving::area_at;
+pub use moving::cross;
+pub use moving::point_at;
+pub use moving::turn;
+pub use moving::turn_back;
 pub use numbers::area_first;
 pub use numbers::degree;
 pub use numbers::neighbours;
-pub use numbers::point_at;
 pub use numbers::point_first;
 pub use numbers::sides;
 pub use search::joining;

@@ -1,49 +1,20 @@
-// Points and areas: those of a place, their first places, how many places they have, and an area's neighbours.
+// Points and areas: their first places, how many places they have, and an area's neighbours.
 use answers::Area;
-use answers::AreaAnswer;
 use answers::Count;
 use answers::Place;
 use answers::PlaceAnswer;
 use answers::Point;
-use answers::PointAnswer;
 use layout::bits_a;
 use neighbouring::neighbours_at;
 use opening::Cell;
 use opening::cell_refusal;
-use opening::place_refusal;
 use sizing::size_at;
-use walking::area_of;
 use walking::first_at;
-use walking::point_of;
 ghost use mathlib.Core.Path.{_≡_};
-ghost use Rattle.answers.specs.Means.{placeMeans, pointMeans, areaMeans, countMeans};
+ghost use Rattle.answers.specs.Means.{placeMeans, countMeans};
 ghost use Rattle.answers.specs.Answer.{Kind};
-ghost use Rattle.format.specs.Calls.{pointOf, areaOf, firstOf, sizeOf, neighboursOf};
+ghost use Rattle.format.specs.Calls.{firstOf, sizeOf, neighboursOf};
 ghost use Rattle.opening.specs.Cells.{kindOf, numberOfCell};
-
-// The point that a place is about.
-pub fn point_at(map: &[u8], place: Place) -> PointAnswer
-    ensures { λ r. ⌜ pointMeans r ≡ pointOf (now (map .entry)) (place .0) ⌝ }
-{
-    let at = place.0;
-    let k = place_refusal(map, place);
-    if k != 0 {
-        return PointAnswer::Declined(k);
-    }
-    PointAnswer::Is(point_of(map, at - 1))
-}
-
-// The area that a place is on the walk of.
-pub fn area_at(map: &[u8], place: Place) -> AreaAnswer
-    ensures { λ r. ⌜ areaMeans r ≡ areaOf (now (map .entry)) (place .0) ⌝ }
-{
-    let at = place.0;
-    let k = place_refusal(map, place);
-    if k != 0 {
-        return AreaAnswer::Declined(k);
-    }
-    AreaAnswer::Is(area_of(map, at - 1))
-}
 
 // The first place of a point: 1 for point 1, else the place after the ( that reaches it; 0 if m = 0.
 pub fn point_first(map: &[u8], point: Point) -> PlaceAnswer

@@ -1,11 +1,11 @@
--- `map::moves::along` meets its contract. Assumes nothing.
+-- `moving::moves::along` meets its contract. Assumes nothing.
 use Rattle.format.specs.Calls.{alongOf}
 use Rattle.opening.proofs.Passed.{place-least}
 use Rattle.walking.proofs.Checked.{place-position}
-use Rattle.map.proofs.Moved.{move-declines, along-answers}
+use Rattle.moving.proofs.Moved.{move-declines, along-answers}
 use borrow.Author.Needs.{needs}
-use Rattle.map.proofs.moves.along.Statement.{statement}
-use Rattle.map.proofs.moves.along.Tie as tie
+use Rattle.moving.proofs.moves.along.Statement.{statement}
+use Rattle.moving.proofs.moves.along.Tie as tie
 
 place-refusal-requires : tie.Need-place-refusal-requires
 place-refusal-requires c κs = search needs

@@ -1,11 +1,11 @@
--- `map::numbers::point_at` meets its contract. Assumes nothing.
+-- `moving::numbers::point_at` meets its contract. Assumes nothing.
 use Rattle.format.specs.Calls.{pointOf}
 use Rattle.opening.proofs.Passed.{place-least}
 use Rattle.walking.proofs.Checked.{place-position}
-use Rattle.map.proofs.Moved.{move-declines, point-answers}
+use Rattle.moving.proofs.Moved.{move-declines, point-answers}
 use borrow.Author.Needs.{needs}
-use Rattle.map.proofs.numbers.point_at.Statement.{statement}
-use Rattle.map.proofs.numbers.point_at.Tie as tie
+use Rattle.moving.proofs.numbers.point_at.Statement.{statement}
+use Rattle.moving.proofs.numbers.point_at.Tie as tie
 
 place-refusal-requires : tie.Need-place-refusal-requires
 place-refusal-requires c κs = search needs

@@ -1,8 +1,8 @@
--- `map::moves::turn_back_from` meets its contract. Assumes nothing.
+-- `moving::moves::turn_back_from` meets its contract. Assumes nothing.
 use Rattle.walking.proofs.Turns.{back-start}
 use borrow.Author.Needs.{needs}
-use Rattle.map.proofs.moves.turn_back_from.Statement.{statement}
-use Rattle.map.proofs.moves.turn_back_from.Tie as tie
+use Rattle.moving.proofs.moves.turn_back_from.Statement.{statement}
+use Rattle.moving.proofs.moves.turn_back_from.Tie as tie
 
 returns : tie.Need-returns
 returns c = search back-start

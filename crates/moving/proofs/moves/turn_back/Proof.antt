@@ -1,11 +1,11 @@
--- `map::moves::turn_back` meets its contract. Assumes nothing.
+-- `moving::moves::turn_back` meets its contract. Assumes nothing.
 use Rattle.format.specs.Calls.{turnBackOf}
 use Rattle.opening.proofs.Passed.{place-least}
 use Rattle.walking.proofs.Checked.{place-position}
-use Rattle.map.proofs.Moved.{move-declines, move-answers}
+use Rattle.moving.proofs.Moved.{move-declines, move-answers}
 use borrow.Author.Needs.{needs}
-use Rattle.map.proofs.moves.turn_back.Statement.{statement}
-use Rattle.map.proofs.moves.turn_back.Tie as tie
+use Rattle.moving.proofs.moves.turn_back.Statement.{statement}
+use Rattle.moving.proofs.moves.turn_back.Tie as tie
 
 place-refusal-requires : tie.Need-place-refusal-requires
 place-refusal-requires c κs = search needs

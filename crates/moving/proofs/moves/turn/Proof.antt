@@ -1,11 +1,11 @@
--- `map::moves::turn` meets its contract. Assumes nothing.
+-- `moving::moves::turn` meets its contract. Assumes nothing.
 use Rattle.format.specs.Calls.{turnOf}
 use Rattle.opening.proofs.Passed.{place-least}
 use Rattle.walking.proofs.Checked.{place-position}
-use Rattle.map.proofs.Moved.{move-declines, move-answers}
+use Rattle.moving.proofs.Moved.{move-declines, move-answers}
 use borrow.Author.Needs.{needs}
-use Rattle.map.proofs.moves.turn.Statement.{statement}
-use Rattle.map.proofs.moves.turn.Tie as tie
+use Rattle.moving.proofs.moves.turn.Statement.{statement}
+use Rattle.moving.proofs.moves.turn.Tie as tie
 
 place-refusal-requires : tie.Need-place-refusal-requires
 place-refusal-requires c κs = search needs

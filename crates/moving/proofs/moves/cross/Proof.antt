@@ -1,11 +1,11 @@
--- `map::moves::cross` meets its contract. Assumes nothing.
+-- `moving::moves::cross` meets its contract. Assumes nothing.
 use Rattle.format.specs.Calls.{crossOf}
 use Rattle.opening.proofs.Passed.{place-least}
 use Rattle.walking.proofs.Checked.{place-position}
-use Rattle.map.proofs.Moved.{move-declines, cross-answers}
+use Rattle.moving.proofs.Moved.{move-declines, cross-answers}
 use borrow.Author.Needs.{needs}
-use Rattle.map.proofs.moves.cross.Statement.{statement}
-use Rattle.map.proofs.moves.cross.Tie as tie
+use Rattle.moving.proofs.moves.cross.Statement.{statement}
+use Rattle.moving.proofs.moves.cross.Tie as tie
 
 place-refusal-requires : tie.Need-place-refusal-requires
 place-refusal-requires c κs = search needs

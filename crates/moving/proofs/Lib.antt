@@ -1,0 +1,2 @@
+-- What is asked at a place: the laws.
+pub mod Moved
