@@ -14,7 +14,7 @@ use mathlib.Core.List.{List, [], _∷_, _++_, append-assoc}
 use Prim.Native.Nat.{ℕ, suc, _+_, _-_, _*_, _/_, _%_, _≤_, _<_}
 use native.Mathlib.Omega.{arith}
 use native.Mathlib.Numerals.{add-one}
-use lib.ListN.{length, getD}
+use lib.ListN.{length}
 use Rattle.count.specs.Below.{table}
 use Rattle.count.proofs.Logic.{same-or-not}
 use Rattle.count.proofs.Lists.{table-length, table-more}
@@ -28,7 +28,8 @@ use Rattle.text.proofs.Pages.{pages-first, pages-new, pages-on, sum-more}
 use Rattle.text.proofs.Schedule.{schedule-total}
 use Rattle.printing.specs.Writing.{Wrote}
 use Rattle.printing.proofs.Writes.{wrote-none, wrote-then, wrote-as}
-use Rattle.tallying.specs.Tallied.{Tallied}
+use Rattle.tallying.specs.Tallied.{Tallied, entryAt}
+use Rattle.tallying.proofs.Lookups.{sides-told, first-told}
 use Rattle.scheduling.specs.Breaks.{pageBreak}
 use Rattle.scheduling.proofs.Columns.{on-page, first-page, new-page, heading-length}
 
@@ -113,15 +114,17 @@ module _ (s ss fs old : List ℕ) (n : ℕ) where
     pub row-room : (at : ℕ) (mid : List ℕ) → i < n → Wrote out next (pageBreak i) at mid → length mid ≡ length out → at + 20 ≤ length mid
     row-room at mid l W e = omega (arith, P .most, P .few, P .room, P .same, W .next, break-most i)
 
-    pub paged-more : (count first at r : ℕ) (mid new : List ℕ) → i < n → count ≡ getD ss i 0 → count < 65536 → first ≡ getD fs i 0
+    pub paged-more : (count first at r : ℕ) (mid new : List ℕ) → i < n → (count ≡ entryAt ss (i + 1)) × (count < 65536) → first ≡ entryAt fs (i + 1)
         → Wrote out next (pageBreak i) at mid → Wrote mid at (rowLine (record { area = i + 1; sides = count; first = first })) r new × (r ≡ at + 20)
         → length new ≡ length out → Paging s ss fs old n (i + 1) (sum + count) r new
     unfolding rowOf
-    paged-more count first at r mid new l hc few hf B R e =
-        let h : i < cellsIn (sizeIn s) Kind.area = omega (arith, P .areas) in
-        let cs : count ≡ placesIn (wordIn s) Kind.area (suc i) = hc ∙ P .tallied .sides-at i h in
-        let cf : first ≡ firstIn (wordIn s) Kind.area (suc i) = hf ∙ P .tallied .first-at i h in
-        let row : record { area = i + 1; sides = count; first = first } ≡ rowOf s (suc i) = λ j. record { area = add-one i j; sides = cs j; first = cf j } in
+    paged-more count first at r mid new l hc hf B R e =
+        let h : i + 1 ≤ cellsIn (sizeIn s) Kind.area = omega (arith, P .areas) in
+        let cs : count ≡ placesIn (wordIn s) Kind.area (i + 1) = hc .0 ∙ sides-told s ss fs (P .tallied) (i + 1) (omega arith) h in
+        let cf : first ≡ firstIn (wordIn s) Kind.area (i + 1) = hf ∙ first-told s ss fs (P .tallied) (i + 1) (omega arith) h in
+        let here : record { area = i + 1; sides = count; first = first } ≡ rowOf s (i + 1) = λ j. record { area = i + 1; sides = cs j; first = cf j } in
+        let row : record { area = i + 1; sides = count; first = first } ≡ rowOf s (suc i) = here ∙ ap (rowOf s) (add-one i) in
+        let es : count ≡ placesIn (wordIn s) Kind.area (suc i) = cs ∙ ap (placesIn (wordIn s) Kind.area) (add-one i) in
         let t : List ℕ = pagesText (rowsTo s i) in
         let W = wrote-then old t 0 next out (omega arith) (P .so-far) (pageBreak i) at mid B in
         let L = wrote-as mid (rowLine (record { area = i + 1; sides = count; first = first })) (rowLine (rowOf s (suc i))) at r new (ap rowLine row) (R .0) in
@@ -134,8 +137,8 @@ module _ (s ss fs old : List ℕ) (n : ℕ) where
           few = P .few;
           so-far = wrote-as old ((t ++ pageBreak i) ++ rowLine (rowOf s (suc i))) (pagesText (rowsTo s (i + 1))) 0 r new
               (append-assoc t (pageBreak i) (rowLine (rowOf s (suc i))) ∙ sym (text-more s i)) Y;
-          added = ap (λ x. sum + x) cs ∙ ap (λ x. x + placesIn (wordIn s) Kind.area (suc i)) (P .added) ∙ sym (sum-grows s i);
-          sum-most = omega (arith, P .sum-most);
+          added = ap (λ x. sum + x) es ∙ ap (λ x. x + placesIn (wordIn s) Kind.area (suc i)) (P .added) ∙ sym (sum-grows s i);
+          sum-most = omega (arith, P .sum-most, hc .1);
           most = omega (arith, P .most, B .next, R .1, break-most i);
           room = P .room;
           same = e ∙ P .same;

@@ -8,7 +8,7 @@
 // they were. The memory has the room of the longest schedule. No function asks anything of its caller.
 //
 // One loop over the areas writes the lines and adds up the sides; what it prints of each area the crate `tallying` has
-// found in one pass. So the time is in proportion to the map and the text, whatever the areas are.
+// found in one pass, and looks up by the area's number. So the time is in proportion to the map and the text, whatever the areas are.
 //
 // The source is document 02, 1/14. The definition that the contract cites is `scheduleOf` of the crate `text`.
 mod pages;

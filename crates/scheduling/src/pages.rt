@@ -2,8 +2,10 @@
 use crate::rows::put_break;
 use crate::rows::put_row;
 use crate::rows::put_total;
+use answers::Area;
 use layout::areas;
-use lending::wide;
+use tallying::first_of;
+use tallying::sides_of;
 ghost use mathlib.Core.Path.{_≡_};
 ghost use Prim.Native.Nat.{_≤_};
 ghost use lib.ListN.{length};
@@ -23,10 +25,11 @@ pub fn put_pages(map: &[u8], sides: &[u16], firsts: &[u16], out: &mut [u8]) -> u
     let mut next = 0;
     let mut i = 0;
     while i < n {
-        let count = wide(sides[i]);
-        let first = wide(firsts[i]);
+        let area = Area(i + 1);
+        let count = sides_of(sides, area);
+        let first = first_of(firsts, area);
         let at = put_break(out, next, i);
-        next = put_row(out, at, i + 1, count, first);
+        next = put_row(out, at, area, count, first);
         sum += count;
         i += 1;
     }

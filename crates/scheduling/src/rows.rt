@@ -1,4 +1,6 @@
 // The lines of a schedule: an area's, what stands before it on a new page, and the last.
+use answers::Area;
+use answers::Place;
 use printing::put_byte;
 use printing::put_column;
 use printing::put_text;
@@ -14,14 +16,14 @@ const PER_PAGE: usize = 50;
 
 // The line of an area: its number, its sides and its first place. Two spaces and 5 columns are 7 columns, since no number
 // has six digits.
-pub fn put_row(out: &mut [u8], at: usize, area: usize, sides: usize, first: usize) -> usize
-    requires { ⌜ (area < 100000) × (sides < 100000) × (first < 100000) × (at + 20 ≤ length (now out)) ⌝ }
-    ensures { λ r. ⌜ Wrote (now (out .entry)) at (rowLine (record { area = area; sides = sides; first = first })) r (now (out .exit)) ⌝ }
+pub fn put_row(out: &mut [u8], at: usize, area: Area, sides: usize, first: Place) -> usize
+    requires { ⌜ (area .0 < 100000) × (sides < 100000) × (first .0 < 100000) × (at + 20 ≤ length (now out)) ⌝ }
+    ensures { λ r. ⌜ Wrote (now (out .entry)) at (rowLine (record { area = area .0; sides = sides; first = first .0 })) r (now (out .exit)) ⌝ }
     ensures { λ r. ⌜ r ≡ at + 20 ⌝ }
 {
-    let a = put_column(out, at, 5, area);
+    let a = put_column(out, at, 5, area.0);
     let b = put_column(out, a, 7, sides);
-    let c = put_column(out, b, 7, first);
+    let c = put_column(out, b, 7, first.0);
     put_byte(out, c, b'\n')
 }
 

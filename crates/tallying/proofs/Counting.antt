@@ -4,9 +4,8 @@
 -- first-met, first-kept, first-other == what one number more makes of it
 -- seen-all        == every area of a map with a place has one, so that at the end it is the first place
 -- blank-zeros     == a list of zeros is blank
--- choose-new, choose-old == a choice between two numbers
 -- Tallying        == what the loop of `count_sides` keeps: the sides before position p are counted
--- area-positive, sides-index, firsts-index, index-fits, sides-fit == there is an entry for the area, and what is stored fits
+-- sides-entry, firsts-entry, sides-fit == there is an entry for the area of a position, and one side more fits
 -- tallied-start, tallied-more == before the first place, one place more
 -- tallied-all, tallied-sides, tallied-firsts == after the last
 -- Assumes nothing.
@@ -14,7 +13,7 @@ use mathlib.Core.Path.{_≡_, refl, sym, ap, _∙_}
 use mathlib.Core.Logic.{_≢_, inl, inr}
 use mathlib.Core.Bool.{Bool, true, false}
 use mathlib.Core.List.{List}
-use Prim.Native.Nat.{ℕ, suc, _+_, _-_, _*_, _≤_, _<_}
+use Prim.Native.Nat.{ℕ, suc, _+_, _-_, _≤_, _<_}
 use native.Mathlib.Omega.{arith}
 use lib.Dec.{eqb}
 use lib.ListN.{length, getD, set, length-set, replicate, length-replicate, getD-replicate, List·getD-eq-default}
@@ -36,7 +35,7 @@ use Rattle.format.proofs.Openings.{cells-numbers, number-cells, areas-most}
 use Rattle.lending.proofs.Laying.{laid-table}
 use Rattle.walking.specs.Positions.{Position}
 use Rattle.walking.proofs.Decoded.{nested, places-most}
-use Rattle.tallying.specs.Tallied.{sidesIn, firstsIn, Blank, Tallied}
+use Rattle.tallying.specs.Tallied.{sidesIn, firstsIn, Blank, Tallied, entryAt, HasEntry, Noted}
 
 -- ---- the first number that has a test, as far as it was met
 abbrev pub firstSeen : (ℕ → Bool) → ℕ → ℕ
@@ -77,14 +76,6 @@ module _ (P : ℕ → Bool) (p : ℕ) where
         | inl z ↦ seen-none P (p + 1) (count-no P p f ∙ z) ∙ sym (seen-none P p z)
         | inr n ↦ first-kept n
       ]
-
--- ---- a choice between two numbers
-module _ (x a b r : ℕ) where
-  pub choose-new : x ≡ 0 → r ≡ a → r ≡ pick (eqb x 0) a b
-  choose-new z e = e ∙ sym (pick-yes (eqb x 0) a b (eq-eqb x 0 z))
-
-  pub choose-old : (x ≡ 0 → ⊥) → r ≡ b → r ≡ pick (eqb x 0) a b
-  choose-old n e = e ∙ sym (pick-no (eqb x 0) a b (ne-eqb x 0 n))
 
 -- ---- the loop
 -- whether position q has the number of the area with index i
@@ -128,86 +119,106 @@ module _ (s ss₀ fs₀ : List ℕ) (n : ℕ) where
       }
 
   module _ (p : ℕ) (ss fs : List ℕ) (T : Tallying s ss₀ fs₀ n p ss fs) where
-    pub tallied-position : p < n → Position s p
+    position : p + 1 - 1 ≡ p
+    position = omega arith
+
+    pub tallied-position : p < n → Position s (p + 1 - 1)
     tallied-position l =
         let m = places-most s (T .opens) in
         record { opens = T .opens; below = omega (arith, T .places); few = omega (arith, T .places) }
 
-    -- area a has an entry
-    module _ (a k : ℕ) (l : p < n) (ha : a ≡ number (seen square (wordIn s)) p) where
-      pub area-positive : 1 ≤ a
-      area-positive = omega (arith, number-positive (seen square (wordIn s)) p)
+    -- the area of a position has an entry, with room for one side more
+    module _ (q a : ℕ) (Q : Position s q) (ha : a ≡ number (seen square (wordIn s)) q) where
+      area-within : (1 ≤ a) × (a ≤ areasOf s)
+      area-within =
+          let r = number-cells s (T .opens) Kind.area q (Q .below) in
+          (omega (arith, number-positive (seen square (wordIn s)) q), omega (arith, r .1))
 
-      module _ (hk : k ≡ a - 1) where
-        index-below : k < areasOf s
-        index-below =
-            let r = number-cells s (T .opens) Kind.area p (omega (arith, T .places)) in
-            omega (arith, r .1, area-positive)
+      pub sides-entry : HasEntry ss a
+      sides-entry =
+          record { least = area-within .0; most = omega (arith, area-within, areas-most s (T .opens), T .sides-same, T .sides-room) }
 
-        pub sides-index : k < length ss
-        sides-index = omega (arith, index-below, areas-most s (T .opens), T .sides-same, T .sides-room)
+      pub firsts-entry : HasEntry fs a
+      firsts-entry =
+          record { least = area-within .0; most = omega (arith, area-within, areas-most s (T .opens), T .firsts-same, T .firsts-room) }
 
-        pub firsts-index : k < length fs
-        firsts-index = omega (arith, index-below, areas-most s (T .opens), T .firsts-same, T .firsts-room)
+      pub sides-fit : entryAt ss a < 65535
+      sides-fit =
+          let k : ℕ = a - 1 in
+          omega (arith, T .sides k (omega (arith, area-within)), count-le (onArea s k) p, T .within, T .few)
 
-        pub index-fits : k * 2 < 18446744073709551616
-        index-fits = omega (arith, index-below, areas-most s (T .opens))
+    -- one side more of area a, whose index is k
+    module _ (a k : ℕ) (P : Position s p) (l : p < n) (ha : a ≡ number (seen square (wordIn s)) p) (hk : k ≡ a - 1) where
+      within-areas : (1 ≤ a) × (a ≤ areasOf s)
+      within-areas = area-within p a P ha
 
-        pub sides-fit : getD ss k 0 + 1 < 65536
-        sides-fit = omega (arith, T .sides k index-below, count-le (onArea s k) p, T .places, places-most s (T .opens))
+      index-below : k < areasOf s
+      index-below = omega (arith, within-areas)
 
-        own : onArea s k p ≡ true
-        own = eq-eqb (number (seen square (wordIn s)) p) (suc k) (omega (arith, area-positive))
+      sides-index : k < length ss
+      sides-index = omega (arith, sides-entry p a P ha)
 
-        others : (i : ℕ) → i ≢ k → onArea s i p ≡ false
-        others i n = ne-eqb (number (seen square (wordIn s)) p) (suc i) (λ e. n (omega (arith, area-positive)))
+      firsts-index : k < length fs
+      firsts-index = omega (arith, firsts-entry p a P ha)
 
-        more-sides : (i : ℕ) → i < areasOf s → getD (set ss k (getD ss k 0 + 1)) i 0 ≡ count (onArea s i) (p + 1)
-        more-sides i h =
-            elim (same-or-not i k) [
-              | inl e ↦
-                  rw e (getD-set-same ss k (getD ss k 0 + 1) 0 sides-index ∙ ap (λ x. x + 1) (T .sides k index-below) ∙ sym (count-yes (onArea s k) p own))
-              | inr d ↦
-                  getD-set-other ss k i (getD ss k 0 + 1) 0 d ∙ T .sides i h ∙ sym (count-no (onArea s i) p (others i d))
-            ]
+      own : onArea s k p ≡ true
+      own = eq-eqb (number (seen square (wordIn s)) p) (suc k) (omega (arith, within-areas))
 
-        module _ (v : ℕ) (hv : v ≡ pick (eqb (getD ss k 0) 0) (p + 1) (getD fs k 0)) where
-          new-first : v ≡ firstSeen (onArea s k) (p + 1)
-          new-first =
-              let e = T .sides k index-below in
-              elim (same-or-not (count (onArea s k) p) 0) [
-                | inl z ↦
-                    hv ∙ pick-yes (eqb (getD ss k 0) 0) (p + 1) (getD fs k 0) (eq-eqb (getD ss k 0) 0 (e ∙ z)) ∙ sym (first-met (onArea s k) p own z)
-                | inr m ↦
-                    hv
-                    ∙ pick-no (eqb (getD ss k 0) 0) (p + 1) (getD fs k 0) (ne-eqb (getD ss k 0) 0 (λ q. m (sym e ∙ q)))
-                    ∙ T .firsts k index-below
-                    ∙ sym (first-kept (onArea s k) p m)
-              ]
+      others : (i : ℕ) → i ≢ k → onArea s i p ≡ false
+      others i n = ne-eqb (number (seen square (wordIn s)) p) (suc i) (λ e. n (omega (arith, within-areas)))
 
-          more-firsts : (i : ℕ) → i < areasOf s → getD (set fs k v) i 0 ≡ firstSeen (onArea s i) (p + 1)
-          more-firsts i h =
-              elim (same-or-not i k) [
-                | inl e ↦ rw e (getD-set-same fs k v 0 firsts-index ∙ new-first)
-                | inr d ↦ getD-set-other fs k i v 0 d ∙ T .firsts i h ∙ sym (first-other (onArea s i) p (others i d))
-              ]
+      more-sides : (i : ℕ) → i < areasOf s → getD (set ss k (getD ss k 0 + 1)) i 0 ≡ count (onArea s i) (p + 1)
+      more-sides i h =
+          elim (same-or-not i k) [
+            | inl e ↦
+                rw e (getD-set-same ss k (getD ss k 0 + 1) 0 sides-index ∙ ap (λ x. x + 1) (T .sides k index-below) ∙ sym (count-yes (onArea s k) p own))
+            | inr d ↦
+                getD-set-other ss k i (getD ss k 0 + 1) 0 d ∙ T .sides i h ∙ sym (count-no (onArea s i) p (others i d))
+          ]
 
-          pub tallied-more : Tallying s ss₀ fs₀ n (p + 1) (set ss k (getD ss k 0 + 1)) (set fs k v)
-          tallied-more =
-              record {
-                opens = T .opens;
-                places = T .places;
-                within = omega arith;
-                few = T .few;
-                sides = more-sides;
-                firsts = more-firsts;
-                sides-rest = λ i h. getD-set-other ss k i (getD ss k 0 + 1) 0 (omega (arith, index-below)) ∙ T .sides-rest i h;
-                firsts-rest = λ i h. getD-set-other fs k i v 0 (omega (arith, index-below)) ∙ T .firsts-rest i h;
-                sides-same = length-set ss k (getD ss k 0 + 1) ∙ T .sides-same;
-                firsts-same = length-set fs k v ∙ T .firsts-same;
-                sides-room = T .sides-room;
-                firsts-room = T .firsts-room;
-              }
+      abbrev chosen : ℕ
+      chosen = pick (eqb (getD ss k 0) 0) (p + 1) (getD fs k 0)
+
+      new-first : chosen ≡ firstSeen (onArea s k) (p + 1)
+      new-first =
+          let e = T .sides k index-below in
+          elim (same-or-not (count (onArea s k) p) 0) [
+            | inl z ↦
+                pick-yes (eqb (getD ss k 0) 0) (p + 1) (getD fs k 0) (eq-eqb (getD ss k 0) 0 (e ∙ z)) ∙ sym (first-met (onArea s k) p own z)
+            | inr m ↦
+                pick-no (eqb (getD ss k 0) 0) (p + 1) (getD fs k 0) (ne-eqb (getD ss k 0) 0 (λ q. m (sym e ∙ q)))
+                ∙ T .firsts k index-below
+                ∙ sym (first-kept (onArea s k) p m)
+          ]
+
+      more-firsts : (i : ℕ) → i < areasOf s → getD (set fs k chosen) i 0 ≡ firstSeen (onArea s i) (p + 1)
+      more-firsts i h =
+          elim (same-or-not i k) [
+            | inl e ↦ rw e (getD-set-same fs k chosen 0 firsts-index ∙ new-first)
+            | inr d ↦ getD-set-other fs k i chosen 0 d ∙ T .firsts i h ∙ sym (first-other (onArea s i) p (others i d))
+          ]
+
+      stored : Tallying s ss₀ fs₀ n (p + 1) (set ss k (getD ss k 0 + 1)) (set fs k chosen)
+      stored =
+          record {
+            opens = T .opens;
+            places = T .places;
+            within = omega arith;
+            few = T .few;
+            sides = more-sides;
+            firsts = more-firsts;
+            sides-rest = λ i h. getD-set-other ss k i (getD ss k 0 + 1) 0 (omega (arith, index-below)) ∙ T .sides-rest i h;
+            firsts-rest = λ i h. getD-set-other fs k i chosen 0 (omega (arith, index-below)) ∙ T .firsts-rest i h;
+            sides-same = length-set ss k (getD ss k 0 + 1) ∙ T .sides-same;
+            firsts-same = length-set fs k chosen ∙ T .firsts-same;
+            sides-room = T .sides-room;
+            firsts-room = T .firsts-room;
+          }
+
+    pub tallied-more : (a place : ℕ) (ss′ fs′ : List ℕ) → Noted a place ss fs ss′ fs′ → place ≡ p + 1 → p < n
+        → a ≡ number (seen square (wordIn s)) (p + 1 - 1) → Tallying s ss₀ fs₀ n (p + 1) ss′ fs′
+    tallied-more a place ss′ fs′ N e l ha =
+        rw (N .counted, N .first, e) (stored a (a - 1) (rw position at (tallied-position l)) l (rw position at ha) refl)
 
     -- ---- after the last place
     module _ (g : n ≤ p) where

@@ -1,9 +1,14 @@
 // Counting the sides of all areas in one loop over the places of a map.
+use crate::entries::first_of;
+use crate::entries::index_of;
+use crate::entries::sides_of;
+use answers::Area;
+use answers::Place;
 use layout::bits_a;
 use surveying::area_in;
 use surveying::survey;
 ghost use mathlib.Core.Path.{_≡_};
-ghost use Prim.Native.Nat.{_≤_};
+ghost use Prim.Native.Nat.{_-_, _<_, _≤_};
 ghost use lib.Dec.{eqb};
 ghost use lib.ListN.{length};
 ghost use Rattle.count.specs.Below.{pick};
@@ -15,7 +20,7 @@ ghost use Rattle.format.specs.Bytes.{wordIn};
 ghost use Rattle.format.specs.Open.{openRefusal};
 ghost use Rattle.surveying.specs.Surveyed.{Numbers};
 ghost use Rattle.walking.specs.Positions.{Position};
-ghost use Rattle.tallying.specs.Tallied.{sidesIn, firstsIn, Blank, Tallied};
+ghost use Rattle.tallying.specs.Tallied.{sidesIn, firstsIn, Blank, Tallied, entryAt, HasEntry, Noted};
 
 // The most areas of a map: 2,048 borders on one point.
 pub const MOST_AREAS: usize = 2049;
@@ -45,25 +50,37 @@ fn count_sides(map: &[u8], areas: &[u16; 4096], sides: &mut [u16], firsts: &mut 
     let n = bits_a(map);
     let mut p = 0;
     while p < n {
-        let k = own_area(map, areas, p) - 1;
-        firsts[k] = first_of(sides[k], firsts[k], (p + 1) as u16);
-        sides[k] += 1;
+        let place = Place(p + 1);
+        let area = own_area(map, areas, place);
+        note_side(sides, firsts, area, place);
         p += 1;
     }
 }
 
-// The number of the area that position p is a side of.
-fn own_area(map: &[u8], areas: &[u16], p: usize) -> usize
-    requires { ⌜ Position (now map) p × Numbers square (now map) (now areas) ⌝ }
-    ensures { λ r. ⌜ r ≡ number (seen square (wordIn (now (map .entry)))) p ⌝ }
+// The area that a place is a side of.
+fn own_area(map: &[u8], areas: &[u16], place: Place) -> Area
+    requires { ⌜ (1 ≤ place .0) × Position (now map) (place .0 - 1) × Numbers square (now map) (now areas) ⌝ }
+    ensures { λ r. ⌜ r .0 ≡ number (seen square (wordIn (now (map .entry)))) (place .0 - 1) ⌝ }
 {
-    area_in(map, areas, p).0
+    area_in(map, areas, place.0 - 1)
+}
+
+// Notes a side of an area: it is counted, and its place is the area's first where none was counted before it.
+fn note_side(sides: &mut [u16], firsts: &mut [u16], area: Area, place: Place)
+    requires { ⌜ HasEntry (now sides) (area .0) × HasEntry (now firsts) (area .0) × (entryAt (now sides) (area .0) < 65535) × (place .0 < 65536) ⌝ }
+    ensures { λ _. ⌜ Noted (area .0) (place .0) (now (sides .entry)) (now (firsts .entry)) (now (sides .exit)) (now (firsts .exit)) ⌝ }
+{
+    let count = sides_of(sides, area);
+    let first = first_so_far(count, first_of(firsts, area), place);
+    let k = index_of(area);
+    firsts[k] = first.0 as u16;
+    sides[k] = (count + 1) as u16;
 }
 
 // The first place of an area, once `place` is met after so many of its sides. A choice between two numbers and no branch: which
 // of the two comes next can't be foreseen.
-fn first_of(sides: u16, first: u16, place: u16) -> u16
-    ensures { λ r. ⌜ r ≡ pick (eqb sides 0) place first ⌝ }
+fn first_so_far(sides: usize, first: Place, place: Place) -> Place
+    ensures { λ r. ⌜ r .0 ≡ pick (eqb sides 0) (place .0) (first .0) ⌝ }
 {
     if sides == 0 { place } else { first }
 }

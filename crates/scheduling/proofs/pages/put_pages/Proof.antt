@@ -18,35 +18,22 @@ areas-requires c κs = search needs
 loop-holds : tie.Need-loop-holds Inv-loop μ-loop
 loop-holds c = search paged-start
 
-mul-wide : tie.Need-mul-wide Inv-loop μ-loop
-mul-wide c = search needs
+add-t14 : tie.Need-add-t14 Inv-loop μ-loop
+add-t14 c = search needs
 
-shared-slice-read-wide : tie.Need-shared-slice-read-wide Inv-loop μ-loop
-shared-slice-read-wide c = search needs
+sides-of-requires : tie.Need-sides-of-requires Inv-loop μ-loop
+sides-of-requires c κs = search needs
 
-wide-requires : tie.Need-wide-requires Inv-loop μ-loop
-wide-requires c κs = search needs
-
-mul-wide-2 : tie.Need-mul-wide-2 Inv-loop μ-loop
-mul-wide-2 c = search needs
-
-shared-slice-read-wide-2 : tie.Need-shared-slice-read-wide-2 Inv-loop μ-loop
-shared-slice-read-wide-2 c = search needs
-
-wide-requires-2 : tie.Need-wide-requires-2 Inv-loop μ-loop
-wide-requires-2 c κs = search needs
+first-of-requires : tie.Need-first-of-requires Inv-loop μ-loop
+first-of-requires c κs = search needs
 
 put-break-requires : tie.Need-put-break-requires Inv-loop μ-loop
 put-break-requires c κs = search break-room
 
-add-put-row : tie.Need-add-put-row Inv-loop μ-loop
-add-put-row c = search needs
-
 put-row-requires : tie.Need-put-row-requires Inv-loop μ-loop
 put-row-requires c κs =
     let break = c .before .before .before in
-    let second = break .before .before in
-    let i = second .before .before .before .before in
+    let i = break .before .before .before .before in
     (omega arith, omega arith, omega arith, row-room _ _ _ _ _ _ _ _ _ (i .before .loop .inv) _ _ (i .loop-test .taken) (break .put-break .ensures) (search needs))
 
 add-sum : tie.Need-add-sum Inv-loop μ-loop
@@ -62,11 +49,11 @@ loop-again : tie.Need-loop-again Inv-loop μ-loop
 loop-again c =
     let row = c .before .before in
     let break = row .before .before .before .before in
-    let second = break .before .before in
-    let first = second .before .before in
-    let i = first .before .before in
+    let first = break .before .before in
+    let sides = first .before in
+    let i = sides .before in
     paged-more _ _ _ _ _ _ _ _ _ (i .before .loop .inv) _ _ (break .put-break .result) (row .put-row .result) _ _ (i .loop-test .taken)
-    (first .wide .ensures .0) (first .wide .ensures .1) (second .wide2 .ensures .0) (break .put-break .ensures) (row .put-row .ensures) (search needs)
+    (sides .sides-of .ensures) (first .first-of .ensures .0) (break .put-break .ensures) (row .put-row .ensures) (search needs)
 
 put-total-requires : tie.Need-put-total-requires Inv-loop μ-loop
 put-total-requires c κs =
@@ -89,14 +76,10 @@ put-pages-spec =
     μ-loop
     areas-requires
     loop-holds
-    mul-wide
-    shared-slice-read-wide
-    wide-requires
-    mul-wide-2
-    shared-slice-read-wide-2
-    wide-requires-2
+    add-t14
+    sides-of-requires
+    first-of-requires
     put-break-requires
-    add-put-row
     put-row-requires
     add-sum
     add-i

@@ -8,7 +8,7 @@ use Rattle.scheduling.proofs.rows.put_row.Tie as tie
 put-column-requires : tie.Need-put-column-requires
 put-column-requires c κs =
     let start = c .before .before in
-    (five-digits (start .args .area) (start .pre .0) 5 (omega arith), omega arith)
+    (five-digits (start .args .area .0) (start .pre .0) 5 (omega arith), omega arith)
 
 put-column-requires-2 : tie.Need-put-column-requires-2
 put-column-requires-2 c κs =
@@ -18,7 +18,7 @@ put-column-requires-2 c κs =
 put-column-requires-3 : tie.Need-put-column-requires-3
 put-column-requires-3 c κs =
     let start = c .before .before .before .before .before .before .before .before .before .before in
-    (five-digits (start .args .first) (start .pre .2) 7 (omega arith), omega arith)
+    (five-digits (start .args .first .0) (start .pre .2) 7 (omega arith), omega arith)
 
 put-byte-requires : tie.Need-put-byte-requires
 put-byte-requires c κs = search needs
@@ -36,7 +36,7 @@ returns c =
     let a = start .args in
     let p = start .pre in
     row-wrote (a .out .now) _ _ _ _ (a .at) (first .put-column .result) (second .put-column2 .result) (third .put-column3 .result) (last .put-byte .result)
-    (record { area = a .area; sides = a .sides; first = a .first }) (p .0) (p .1) (p .2) (p .3)
+    (record { area = a .area .0; sides = a .sides; first = a .first .0 }) (p .0) (p .1) (p .2) (p .3)
     (first .put-column .ensures .0) (second .put-column2 .ensures .0) (third .put-column3 .ensures .0) (last .put-byte .ensures)
 
 pub put-row-spec : {M : Type 1} → statement M
