@@ -1,13 +1,15 @@
--- Counting the places of all areas in one loop.
+-- Counting the places of all areas in one loop, from the last place down.
 --
--- firstSeen P p   == 0 where no number below p has the test P, else 1 + the first that has
--- first-met, first-kept, first-other == what one number more makes of it
--- seen-all        == every area of a map with a place has one, so that at the end it is the first place
+-- Lowest P p n x  == x is 1 + the lowest number from p up to n that has the test P, and 0 where none has
+-- lowest-end, lowest-here, lowest-other == before the first number, and what one number more makes of it
+-- lowest-first    == of all numbers it is the one that a search finds
+-- first-place     == every area of a map with a place has one, so that at the end it is the first place
 -- blank-zeros     == a list of zeros is blank
--- Tallying        == what the loop of `count_sides` keeps: the sides before position p are counted
+-- Tallying        == what the loop of `count_sides` keeps: the sides from position p on are noted
+-- tallied-position == the place before them is one of the map
 -- sides-entry, firsts-entry, sides-fit == there is an entry for the area of a position, and one side more fits
--- tallied-start, tallied-more == before the first place, one place more
--- tallied-all, tallied-sides, tallied-firsts == after the last
+-- tallied-start, tallied-more == before the last place, one place more
+-- tallied-all, tallied-sides, tallied-firsts == after the first
 -- Assumes nothing.
 use mathlib.Core.Path.{_≡_, refl, sym, ap, _∙_}
 use mathlib.Core.Logic.{_≢_, inl, inr}
@@ -15,13 +17,14 @@ use mathlib.Core.Bool.{Bool, true, false}
 use mathlib.Core.List.{List}
 use Prim.Native.Nat.{ℕ, suc, _+_, _-_, _≤_, _<_}
 use native.Mathlib.Omega.{arith}
+use native.Mathlib.Numerals.{add-one}
 use lib.Dec.{eqb}
 use lib.ListN.{length, getD, set, length-set, replicate, length-replicate, getD-replicate, List·getD-eq-default}
 use lib.Seq.{getD-set-same, getD-set-other}
 use borrow.Author.Tests.{eq-eqb, ne-eqb}
-use Rattle.count.specs.Below.{pick, count, find}
-use Rattle.count.proofs.Logic.{same-or-not, lt-or-ge, true-or-false, pick-yes, pick-no}
-use Rattle.count.proofs.Below.{count-zero, count-yes, count-no, count-le, count-mono, count-before, count-none, find-is, find-has, find-not}
+use Rattle.count.specs.Below.{count, find}
+use Rattle.count.proofs.Logic.{same-or-not, lt-or-ge, true-not-false, pick-yes, pick-no}
+use Rattle.count.proofs.Below.{count-zero, count-yes, count-no, count-le, find-has, find-not, find-at-most}
 use Rattle.answers.specs.Lent.{laid}
 use Rattle.answers.specs.Answer.{Kind}
 use Rattle.words.specs.Brackets.{number, first, size}
@@ -37,45 +40,40 @@ use Rattle.walking.specs.Positions.{Position}
 use Rattle.walking.proofs.Decoded.{nested, places-most}
 use Rattle.tallying.specs.Tallied.{sidesIn, firstsIn, Blank, Tallied, entryAt, HasEntry, Noted}
 
--- ---- the first number that has a test, as far as it was met
-abbrev pub firstSeen : (ℕ → Bool) → ℕ → ℕ
-firstSeen P p = pick (eqb (count P p) 0) 0 (suc (find P p))
+-- ---- the lowest number that has a test, of those from p on
+pub record Lowest (P : ℕ → Bool) (p n x : ℕ) : Type 0 where
+  pub none : ((y : ℕ) → p ≤ y → y < n → P y ≡ false) → x ≡ 0
+  pub some : (y : ℕ) → p ≤ y → y < n → P y ≡ true → ((z : ℕ) → p ≤ z → z < y → P z ≡ false) → x ≡ suc y
 
-module _ (P : ℕ → Bool) (p : ℕ) where
-  seen-none : count P p ≡ 0 → firstSeen P p ≡ 0
-  seen-none z = pick-yes (eqb (count P p) 0) 0 (suc (find P p)) (eq-eqb (count P p) 0 z)
+module _ (P : ℕ → Bool) (n : ℕ) where
+  lowest-end : (x : ℕ) → x ≡ 0 → Lowest P n n x
+  lowest-end x e = record { none = λ f. e; some = λ y l h t f. absurd (omega arith) }
 
-  seen-some : count P p ≢ 0 → firstSeen P p ≡ suc (find P p)
-  seen-some n = pick-no (eqb (count P p) 0) 0 (suc (find P p)) (ne-eqb (count P p) 0 n)
+  module _ (p : ℕ) (l : p < n) where
+    lowest-here : P p ≡ true → Lowest P p n (suc p)
+    lowest-here t =
+        record {
+          none = λ f. absurd (true-not-false (P p) t (f p (omega arith) l));
+          some = λ y g h u f. elim (same-or-not y p) [
+            | inl e ↦ ap suc (sym e)
+            | inr d ↦ absurd (true-not-false (P p) t (f p (omega arith) (omega arith)))
+          ];
+        }
 
-  none-before : count P p ≡ 0 → (y : ℕ) → y < p → P y ≡ false
-  none-before z y l = elim (true-or-false (P y)) [ inl t ↦ absurd (omega (arith, count-before P y p l t)) | inr f ↦ f ]
+    lowest-other : (x : ℕ) → P p ≡ false → Lowest P (p + 1) n x → Lowest P p n x
+    lowest-other x f L =
+        record {
+          none = λ g. L .none (λ y h k. g y (omega arith) k);
+          some = λ y g h u k. elim (same-or-not y p) [
+            | inl e ↦ absurd (true-not-false (P p) (ap P (sym e) ∙ u) f)
+            | inr d ↦ L .some y (omega arith) h u (λ z a b. k z (omega arith) b)
+          ];
+        }
 
-module _ (P : ℕ → Bool) (p : ℕ) where
-  first-met : P p ≡ true → count P p ≡ 0 → firstSeen P (p + 1) ≡ p + 1
-  first-met t z =
-      let m = count-yes P p t in
-      seen-some P (p + 1) (omega arith)
-      ∙ ap suc (find-is P (p + 1) p (omega arith) t (none-before P p z))
-      ∙ omega arith
-
-  first-kept : count P p ≢ 0 → firstSeen P (p + 1) ≡ firstSeen P p
-  first-kept n =
-      let m = count-mono P p (p + 1) (omega arith) in
-      elim (lt-or-ge (find P p) p) [
-        | inl l ↦
-            seen-some P (p + 1) (omega arith)
-            ∙ ap suc (find-is P (p + 1) (find P p) (omega arith) (find-has P p l) (λ y k. find-not P p y k))
-            ∙ sym (seen-some P p n)
-        | inr g ↦ absurd (n (count-none P p (λ y k. find-not P p y (omega arith))))
-      ]
-
-  first-other : P p ≡ false → firstSeen P (p + 1) ≡ firstSeen P p
-  first-other f =
-      elim (same-or-not (count P p) 0) [
-        | inl z ↦ seen-none P (p + 1) (count-no P p f ∙ z) ∙ sym (seen-none P p z)
-        | inr n ↦ first-kept n
-      ]
+  lowest-first : (x y : ℕ) → Lowest P 0 n x → y < n → P y ≡ true → x ≡ suc (find P n)
+  lowest-first x y L l t =
+      let h = find-at-most P n y l t in
+      L .some (find P n) (omega arith) (omega arith) (find-has P n (omega arith)) (λ z a b. find-not P n z b)
 
 -- ---- the loop
 -- whether position q has the number of the area with index i
@@ -85,13 +83,12 @@ onArea s i q = eqb (number (seen square (wordIn s)) q) (suc i)
 abbrev areasOf : List ℕ → ℕ
 areasOf s = cellsIn (sizeIn s) Kind.area
 
-pub record Tallying (s ss₀ fs₀ : List ℕ) (n p : ℕ) (ss fs : List ℕ) : Type 0 where
+pub record Tallying (s ss₀ fs₀ : List ℕ) (p : ℕ) (ss fs : List ℕ) : Type 0 where
   pub opens : openRefusal s ≡ 0
-  pub places : n ≡ bitsA (sizeIn s)
-  pub within : p ≤ n
-  pub few : n ≤ 4096
-  pub sides : (i : ℕ) → i < areasOf s → getD ss i 0 ≡ count (onArea s i) p
-  pub firsts : (i : ℕ) → i < areasOf s → getD fs i 0 ≡ firstSeen (onArea s i) p
+  pub within : p ≤ bitsA (sizeIn s)
+  pub few : p ≤ 4096
+  pub sides : (i : ℕ) → i < areasOf s → getD ss i 0 + count (onArea s i) p ≡ count (onArea s i) (bitsA (sizeIn s))
+  pub firsts : (i : ℕ) → i < areasOf s → Lowest (onArea s i) p (bitsA (sizeIn s)) (getD fs i 0)
   pub sides-rest : (i : ℕ) → areasOf s ≤ i → getD ss i 0 ≡ getD ss₀ i 0
   pub firsts-rest : (i : ℕ) → areasOf s ≤ i → getD fs i 0 ≡ getD fs₀ i 0
   pub sides-same : length ss ≡ length ss₀
@@ -99,17 +96,16 @@ pub record Tallying (s ss₀ fs₀ : List ℕ) (n p : ℕ) (ss fs : List ℕ) : 
   pub sides-room : 2049 ≤ length ss₀
   pub firsts-room : 2049 ≤ length fs₀
 
-module _ (s ss₀ fs₀ : List ℕ) (n : ℕ) where
-  pub tallied-start : openRefusal s ≡ 0 → n ≡ bitsA (sizeIn s) → Blank ss₀ → 2049 ≤ length ss₀ → Blank fs₀ → 2049 ≤ length fs₀
-      → Tallying s ss₀ fs₀ n 0 ss₀ fs₀
-  tallied-start o e bs hs bf hf =
+module _ (s ss₀ fs₀ : List ℕ) where
+  pub tallied-start : (n : ℕ) → openRefusal s ≡ 0 → n ≡ bitsA (sizeIn s) → Blank ss₀ → 2049 ≤ length ss₀ → Blank fs₀ → 2049 ≤ length fs₀
+      → Tallying s ss₀ fs₀ n ss₀ fs₀
+  tallied-start n o e bs hs bf hf =
       record {
         opens = o;
-        places = e;
         within = omega arith;
         few = omega (arith, places-most s o);
-        sides = λ i l. bs .zero i ∙ sym (count-zero (onArea s i));
-        firsts = λ i l. bf .zero i ∙ sym (seen-none (onArea s i) 0 (count-zero (onArea s i)));
+        sides = λ i l. omega (arith, bs .zero i, ap (count (onArea s i)) e);
+        firsts = λ i l. rw e (lowest-end (onArea s i) (bitsA (sizeIn s)) (getD fs₀ i 0) (bf .zero i));
         sides-rest = λ i l. refl;
         firsts-rest = λ i l. refl;
         sides-same = refl;
@@ -118,14 +114,9 @@ module _ (s ss₀ fs₀ : List ℕ) (n : ℕ) where
         firsts-room = hf;
       }
 
-  module _ (p : ℕ) (ss fs : List ℕ) (T : Tallying s ss₀ fs₀ n p ss fs) where
-    position : p + 1 - 1 ≡ p
-    position = omega arith
-
-    pub tallied-position : p < n → Position s (p + 1 - 1)
-    tallied-position l =
-        let m = places-most s (T .opens) in
-        record { opens = T .opens; below = omega (arith, T .places); few = omega (arith, T .places) }
+  module _ (p : ℕ) (ss fs : List ℕ) (T : Tallying s ss₀ fs₀ p ss fs) where
+    pub tallied-position : 0 < p → Position s (p - 1)
+    tallied-position l = record { opens = T .opens; below = omega (arith, T .within); few = omega (arith, T .few) }
 
     -- the area of a position has an entry, with room for one side more
     module _ (q a : ℕ) (Q : Position s q) (ha : a ≡ number (seen square (wordIn s)) q) where
@@ -145,108 +136,98 @@ module _ (s ss₀ fs₀ : List ℕ) (n : ℕ) where
       pub sides-fit : entryAt ss a < 65535
       sides-fit =
           let k : ℕ = a - 1 in
-          omega (arith, T .sides k (omega (arith, area-within)), count-le (onArea s k) p, T .within, T .few)
+          omega (arith, T .sides k (omega (arith, area-within)), count-le (onArea s k) (bitsA (sizeIn s)), places-most s (T .opens))
 
-    -- one side more of area a, whose index is k
-    module _ (a k : ℕ) (P : Position s p) (l : p < n) (ha : a ≡ number (seen square (wordIn s)) p) (hk : k ≡ a - 1) where
-      within-areas : (1 ≤ a) × (a ≤ areasOf s)
-      within-areas = area-within p a P ha
+  -- one side more, at position p, of area a, whose index is k
+  module _ (p : ℕ) (ss fs : List ℕ) (T : Tallying s ss₀ fs₀ (p + 1) ss fs) (a k : ℕ) (P : Position s p) (ha : a ≡ number (seen square (wordIn s)) p) (hk : k ≡ a - 1) where
+    within-areas : (1 ≤ a) × (a ≤ areasOf s)
+    within-areas = area-within (p + 1) ss fs T p a P ha
 
-      index-below : k < areasOf s
-      index-below = omega (arith, within-areas)
+    index-below : k < areasOf s
+    index-below = omega (arith, within-areas)
 
-      sides-index : k < length ss
-      sides-index = omega (arith, sides-entry p a P ha)
+    sides-index : k < length ss
+    sides-index = omega (arith, sides-entry (p + 1) ss fs T p a P ha)
 
-      firsts-index : k < length fs
-      firsts-index = omega (arith, firsts-entry p a P ha)
+    firsts-index : k < length fs
+    firsts-index = omega (arith, firsts-entry (p + 1) ss fs T p a P ha)
 
-      own : onArea s k p ≡ true
-      own = eq-eqb (number (seen square (wordIn s)) p) (suc k) (omega (arith, within-areas))
+    own : onArea s k p ≡ true
+    own = eq-eqb (number (seen square (wordIn s)) p) (suc k) (omega (arith, within-areas))
 
-      others : (i : ℕ) → i ≢ k → onArea s i p ≡ false
-      others i n = ne-eqb (number (seen square (wordIn s)) p) (suc i) (λ e. n (omega (arith, within-areas)))
+    others : (i : ℕ) → i ≢ k → onArea s i p ≡ false
+    others i n = ne-eqb (number (seen square (wordIn s)) p) (suc i) (λ e. n (omega (arith, within-areas)))
 
-      more-sides : (i : ℕ) → i < areasOf s → getD (set ss k (getD ss k 0 + 1)) i 0 ≡ count (onArea s i) (p + 1)
-      more-sides i h =
-          elim (same-or-not i k) [
-            | inl e ↦
-                rw e (getD-set-same ss k (getD ss k 0 + 1) 0 sides-index ∙ ap (λ x. x + 1) (T .sides k index-below) ∙ sym (count-yes (onArea s k) p own))
-            | inr d ↦
-                getD-set-other ss k i (getD ss k 0 + 1) 0 d ∙ T .sides i h ∙ sym (count-no (onArea s i) p (others i d))
-          ]
+    more-sides : (i : ℕ) → i < areasOf s
+        → getD (set ss k (getD ss k 0 + 1)) i 0 + count (onArea s i) p ≡ count (onArea s i) (bitsA (sizeIn s))
+    more-sides i h =
+        elim (same-or-not i k) [
+          | inl e ↦
+              rw e (omega (arith, getD-set-same ss k (getD ss k 0 + 1) 0 sides-index, T .sides k index-below, count-yes (onArea s k) p own))
+          | inr d ↦
+              omega (arith, getD-set-other ss k i (getD ss k 0 + 1) 0 d, T .sides i h, count-no (onArea s i) p (others i d))
+        ]
 
-      abbrev chosen : ℕ
-      chosen = pick (eqb (getD ss k 0) 0) (p + 1) (getD fs k 0)
+    more-firsts : (i : ℕ) → i < areasOf s → Lowest (onArea s i) p (bitsA (sizeIn s)) (getD (set fs k (p + 1)) i 0)
+    more-firsts i h =
+        elim (same-or-not i k) [
+          | inl e ↦
+              rw (e, getD-set-same fs k (p + 1) 0 firsts-index, add-one p) (lowest-here (onArea s k) (bitsA (sizeIn s)) p (P .below) own)
+          | inr d ↦
+              rw (getD-set-other fs k i (p + 1) 0 d) (lowest-other (onArea s i) (bitsA (sizeIn s)) p (P .below) (getD fs i 0) (others i d) (T .firsts i h))
+        ]
 
-      new-first : chosen ≡ firstSeen (onArea s k) (p + 1)
-      new-first =
-          let e = T .sides k index-below in
-          elim (same-or-not (count (onArea s k) p) 0) [
-            | inl z ↦
-                pick-yes (eqb (getD ss k 0) 0) (p + 1) (getD fs k 0) (eq-eqb (getD ss k 0) 0 (e ∙ z)) ∙ sym (first-met (onArea s k) p own z)
-            | inr m ↦
-                pick-no (eqb (getD ss k 0) 0) (p + 1) (getD fs k 0) (ne-eqb (getD ss k 0) 0 (λ q. m (sym e ∙ q)))
-                ∙ T .firsts k index-below
-                ∙ sym (first-kept (onArea s k) p m)
-          ]
+    stored : Tallying s ss₀ fs₀ p (set ss k (getD ss k 0 + 1)) (set fs k (p + 1))
+    stored =
+        record {
+          opens = T .opens;
+          within = omega (arith, T .within);
+          few = omega (arith, T .few);
+          sides = more-sides;
+          firsts = more-firsts;
+          sides-rest = λ i h. getD-set-other ss k i (getD ss k 0 + 1) 0 (omega (arith, index-below)) ∙ T .sides-rest i h;
+          firsts-rest = λ i h. getD-set-other fs k i (p + 1) 0 (omega (arith, index-below)) ∙ T .firsts-rest i h;
+          sides-same = length-set ss k (getD ss k 0 + 1) ∙ T .sides-same;
+          firsts-same = length-set fs k (p + 1) ∙ T .firsts-same;
+          sides-room = T .sides-room;
+          firsts-room = T .firsts-room;
+        }
 
-      more-firsts : (i : ℕ) → i < areasOf s → getD (set fs k chosen) i 0 ≡ firstSeen (onArea s i) (p + 1)
-      more-firsts i h =
-          elim (same-or-not i k) [
-            | inl e ↦ rw e (getD-set-same fs k chosen 0 firsts-index ∙ new-first)
-            | inr d ↦ getD-set-other fs k i chosen 0 d ∙ T .firsts i h ∙ sym (first-other (onArea s i) p (others i d))
-          ]
-
-      stored : Tallying s ss₀ fs₀ n (p + 1) (set ss k (getD ss k 0 + 1)) (set fs k chosen)
-      stored =
-          record {
-            opens = T .opens;
-            places = T .places;
-            within = omega arith;
-            few = T .few;
-            sides = more-sides;
-            firsts = more-firsts;
-            sides-rest = λ i h. getD-set-other ss k i (getD ss k 0 + 1) 0 (omega (arith, index-below)) ∙ T .sides-rest i h;
-            firsts-rest = λ i h. getD-set-other fs k i chosen 0 (omega (arith, index-below)) ∙ T .firsts-rest i h;
-            sides-same = length-set ss k (getD ss k 0 + 1) ∙ T .sides-same;
-            firsts-same = length-set fs k chosen ∙ T .firsts-same;
-            sides-room = T .sides-room;
-            firsts-room = T .firsts-room;
-          }
-
-    pub tallied-more : (a place : ℕ) (ss′ fs′ : List ℕ) → Noted a place ss fs ss′ fs′ → place ≡ p + 1 → p < n
-        → a ≡ number (seen square (wordIn s)) (p + 1 - 1) → Tallying s ss₀ fs₀ n (p + 1) ss′ fs′
+  module _ (p : ℕ) (ss fs : List ℕ) (T : Tallying s ss₀ fs₀ p ss fs) where
+    pub tallied-more : (a place : ℕ) (ss′ fs′ : List ℕ) → Noted a place ss fs ss′ fs′ → place ≡ p → 0 < p → a ≡ number (seen square (wordIn s)) (p - 1)
+        → Tallying s ss₀ fs₀ (p - 1) ss′ fs′
     tallied-more a place ss′ fs′ N e l ha =
-        rw (N .counted, N .first, e) (stored a (a - 1) (rw position at (tallied-position l)) l (rw position at ha) refl)
+        let h : p - 1 + 1 ≡ p = omega arith in
+        let U : Tallying s ss₀ fs₀ (p - 1 + 1) ss fs = rw h T in
+        rw (N .counted, N .first, e ∙ sym h) (stored (p - 1) ss fs U a (a - 1) (tallied-position p ss fs T l) ha refl)
 
-    -- ---- after the last place
-    module _ (g : n ≤ p) where
-      ended : p ≡ bitsA (sizeIn s)
-      ended = omega (arith, T .places, T .within)
+    -- ---- after the first place
+    module _ (g : p ≤ 0) where
+      ended : p ≡ 0
+      ended = omega arith
 
       -- every area of a map with a place has one
-      seen-all : (i : ℕ) → i < areasOf s → firstSeen (onArea s i) (bitsA (sizeIn s)) ≡ firstIn (wordIn s) Kind.area (suc i)
+      first-place : (i : ℕ) → i < areasOf s → getD fs i 0 ≡ firstIn (wordIn s) Kind.area (suc i)
       unfolding firstIn first wordIn
-      seen-all i h =
+      first-place i h =
           let N : ℕ = bitsA (sizeIn s) in
           let P : ℕ → Bool = onArea s i in
+          let L : Lowest P 0 N (getD fs i 0) = rw ended at (T .firsts i h) in
           elim (same-or-not N 0) [
-            | inl z ↦
-                seen-none P N (ap (count P) z ∙ count-zero P) ∙ sym (pick-yes (eqb N 0) 0 (suc (find P N)) (eq-eqb N 0 z))
+            | inl z ↦ L .none (λ y a b. absurd (omega arith)) ∙ sym (pick-yes (eqb N 0) 0 (suc (find P N)) (eq-eqb N 0 z))
             | inr m ↦
                 let r = number-reached (seen square (wordIn s)) N (nested s square (T .opens)) (omega arith) (suc i) (omega arith)
                 (omega (arith, cells-numbers s Kind.area (T .opens))) in
-                let b = count-before P (r .0) N (r .1) (eq-eqb (number (seen square (wordIn s)) (r .0)) (suc i) (r .2)) in
-                seen-some P N (omega arith) ∙ sym (pick-no (eqb N 0) 0 (suc (find P N)) (ne-eqb N 0 m))
+                lowest-first P N (getD fs i 0) (r .0) L (r .1) (eq-eqb (number (seen square (wordIn s)) (r .0)) (suc i) (r .2))
+                ∙ sym (pick-no (eqb N 0) 0 (suc (find P N)) (ne-eqb N 0 m))
           ]
 
       pub tallied-all : Tallied s ss fs
       unfolding placesIn size wordIn
       tallied-all =
           record {
-            sides-at = λ i h. T .sides i h ∙ ap (count (onArea s i)) ended;
-            first-at = λ i h. T .firsts i h ∙ ap (firstSeen (onArea s i)) ended ∙ seen-all i h;
+            sides-at = λ i h. omega (arith, T .sides i h, ap (count (onArea s i)) ended, count-zero (onArea s i));
+            first-at = first-place;
           }
 
       pub tallied-sides : ss ≡ laid (sidesIn s) ss₀

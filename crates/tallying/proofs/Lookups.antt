@@ -2,20 +2,13 @@
 --
 -- entry-found == what stands at an area's index is its entry
 -- sides-told, first-told == by a tally, the entries of an area of the map are its sides and its first place
--- choose-new, choose-old == a choice between two numbers
--- chosen-fits == it fits where both numbers do
--- side-counted, first-noted == what storing at an area's index makes of the lists
+-- side-fits, side-counted, first-noted == one side more fits, and what storing at an area's index makes of the lists
 -- Assumes nothing.
-use mathlib.Core.Path.{_≡_, sym, ap, _∙_}
-use mathlib.Core.Logic.{inl, inr}
+use mathlib.Core.Path.{_≡_, ap, _∙_}
 use mathlib.Core.List.{List}
 use Prim.Native.Nat.{ℕ, suc, _+_, _-_, _≤_, _<_}
 use native.Mathlib.Omega.{arith}
-use lib.Dec.{eqb}
 use lib.ListN.{getD, set}
-use borrow.Author.Tests.{eq-eqb, ne-eqb}
-use Rattle.count.specs.Below.{pick}
-use Rattle.count.proofs.Logic.{same-or-not, pick-yes, pick-no}
 use Rattle.answers.specs.Answer.{Kind}
 use Rattle.format.specs.Bytes.{sizeIn, wordIn}
 use Rattle.format.specs.Calls.{cellsIn, firstIn, placesIn}
@@ -35,26 +28,13 @@ module _ (s sides firsts : List ℕ) (T : Tallied s sides firsts) (k : ℕ) (l :
   pub first-told : entryAt firsts k ≡ firstIn (wordIn s) Kind.area k
   first-told = T .first-at (k - 1) (omega arith) ∙ ap (firstIn (wordIn s) Kind.area) number
 
--- ---- a choice between two numbers
-module _ (x a b r : ℕ) where
-  pub choose-new : x ≡ 0 → r ≡ a → r ≡ pick (eqb x 0) a b
-  choose-new z e = e ∙ sym (pick-yes (eqb x 0) a b (eq-eqb x 0 z))
-
-  pub choose-old : (x ≡ 0 → ⊥) → r ≡ b → r ≡ pick (eqb x 0) a b
-  choose-old n e = e ∙ sym (pick-no (eqb x 0) a b (ne-eqb x 0 n))
-
-  pub chosen-fits : r ≡ pick (eqb x 0) a b → a < 65536 → b < 65536 → r < 65536
-  chosen-fits e ha hb =
-      elim (same-or-not x 0) [
-        | inl z ↦ omega (arith, e ∙ pick-yes (eqb x 0) a b (eq-eqb x 0 z))
-        | inr n ↦ omega (arith, e ∙ pick-no (eqb x 0) a b (ne-eqb x 0 n))
-      ]
-
 -- ---- a side noted
-module _ (ss : List ℕ) (a i count : ℕ) (h : i ≡ a - 1) (c : count ≡ entryAt ss a) where
-  pub side-counted : set ss i (count + 1) ≡ set ss (a - 1) (entryAt ss a + 1)
-  side-counted = rw (h, c)
+module _ (a i : ℕ) (h : i ≡ a - 1) where
+  pub side-fits : (ss : List ℕ) → entryAt ss a < 65535 → getD ss i 0 + 1 < 65536
+  side-fits ss l = omega (arith, ap (λ j. getD ss j 0) h)
 
-  pub first-noted : (fs : List ℕ) (place old first : ℕ) → old ≡ entryAt fs a → first ≡ pick (eqb count 0) place old
-      → set fs i first ≡ set fs (a - 1) (pick (eqb (entryAt ss a) 0) place (entryAt fs a))
-  first-noted fs place old first o e = rw (h, e, c, o)
+  pub side-counted : (ss : List ℕ) → set ss i (getD ss i 0 + 1) ≡ set ss (a - 1) (entryAt ss a + 1)
+  side-counted ss = rw h
+
+  pub first-noted : (fs : List ℕ) (place : ℕ) → set fs i place ≡ set fs (a - 1) place
+  first-noted fs place = rw h

@@ -6,14 +6,13 @@
 -- Tallied s sides firsts == what the lists have for an area is its sides, its first place
 -- entryAt l k == what the list l has for area k
 -- HasEntry l k == it has an entry for area k
--- Noted k p sides firsts sides′ firsts′ == place p is noted as a side of area k: it is counted, and the first if none came before
+-- Noted k p sides firsts sides′ firsts′ == place p is noted as a side of area k: it is counted, and stands for the first
 -- Assumes nothing.
 use mathlib.Core.Path.{_≡_}
 use mathlib.Core.List.{List}
 use Prim.Native.Nat.{ℕ, suc, _+_, _-_, _<_, _≤_}
-use lib.Dec.{eqb}
 use lib.ListN.{length, getD, set}
-use Rattle.count.specs.Below.{pick, table}
+use Rattle.count.specs.Below.{table}
 use Rattle.answers.specs.Answer.{Kind}
 use Rattle.format.specs.Bytes.{sizeIn, wordIn}
 use Rattle.format.specs.Calls.{cellsIn, firstIn, placesIn}
@@ -44,4 +43,4 @@ pub record HasEntry (l : List ℕ) (k : ℕ) : Type 0 where
 
 pub record Noted (k p : ℕ) (sides firsts sides′ firsts′ : List ℕ) : Type 0 where
   pub counted : sides′ ≡ set sides (k - 1) (entryAt sides k + 1)
-  pub first : firsts′ ≡ set firsts (k - 1) (pick (eqb (entryAt sides k) 0) p (entryAt firsts k))
+  pub first : firsts′ ≡ set firsts (k - 1) p

@@ -1,7 +1,5 @@
 // Counting the sides of all areas in one loop over the places of a map.
-use crate::entries::first_of;
 use crate::entries::index_of;
-use crate::entries::sides_of;
 use answers::Area;
 use answers::Place;
 use layout::bits_a;
@@ -9,9 +7,7 @@ use surveying::area_in;
 use surveying::survey;
 ghost use mathlib.Core.Path.{_≡_};
 ghost use Prim.Native.Nat.{_-_, _<_, _≤_};
-ghost use lib.Dec.{eqb};
 ghost use lib.ListN.{length};
-ghost use Rattle.count.specs.Below.{pick};
 ghost use Rattle.answers.specs.Lent.{laid};
 ghost use Rattle.words.specs.Brackets.{number};
 ghost use Rattle.words.specs.declared.family.Family.the-variants.{Square as square};
@@ -39,7 +35,8 @@ pub fn tally(map: &[u8], sides: &mut [u16; MOST_AREAS], firsts: &mut [u16; MOST_
     count_sides(map, &areas, sides, firsts);
 }
 
-// Each place is a side of its area, and the first place where no side of the area came before it.
+// Each place is a side of its area. They are met from the last down, so that the place stored last for an area is its first: nothing
+// is chosen, and there is no jump, which the areas of a map would make slow.
 fn count_sides(map: &[u8], areas: &[u16; 4096], sides: &mut [u16], firsts: &mut [u16])
     requires { ⌜ (openRefusal (now map) ≡ 0) × Numbers square (now map) (now areas) ⌝ }
     requires { ⌜ Blank (now sides) × (2049 ≤ length (now sides)) × Blank (now firsts) × (2049 ≤ length (now firsts)) ⌝ }
@@ -47,13 +44,12 @@ fn count_sides(map: &[u8], areas: &[u16; 4096], sides: &mut [u16], firsts: &mut 
     ensures { λ _. ⌜ now (firsts .exit) ≡ laid (firstsIn (now (map .entry))) (now (firsts .entry)) ⌝ }
     ensures { λ _. ⌜ Tallied (now (map .entry)) (now (sides .exit)) (now (firsts .exit)) ⌝ }
 {
-    let n = bits_a(map);
-    let mut p = 0;
-    while p < n {
-        let place = Place(p + 1);
+    let mut p = bits_a(map);
+    while p > 0 {
+        let place = Place(p);
         let area = own_area(map, areas, place);
         note_side(sides, firsts, area, place);
-        p += 1;
+        p -= 1;
     }
 }
 
@@ -65,22 +61,12 @@ fn own_area(map: &[u8], areas: &[u16], place: Place) -> Area
     area_in(map, areas, place.0 - 1)
 }
 
-// Notes a side of an area: it is counted, and its place is the area's first where none was counted before it.
+// Notes a side of an area: it is counted, and its place stands for the first, until a lower one is noted.
 fn note_side(sides: &mut [u16], firsts: &mut [u16], area: Area, place: Place)
     requires { ⌜ HasEntry (now sides) (area .0) × HasEntry (now firsts) (area .0) × (entryAt (now sides) (area .0) < 65535) × (place .0 < 65536) ⌝ }
     ensures { λ _. ⌜ Noted (area .0) (place .0) (now (sides .entry)) (now (firsts .entry)) (now (sides .exit)) (now (firsts .exit)) ⌝ }
 {
-    let count = sides_of(sides, area);
-    let first = first_so_far(count, first_of(firsts, area), place);
     let k = index_of(area);
-    firsts[k] = first.0 as u16;
-    sides[k] = (count + 1) as u16;
-}
-
-// The first place of an area, once `place` is met after so many of its sides. A choice between two numbers and no branch: which
-// of the two comes next can't be foreseen.
-fn first_so_far(sides: usize, first: Place, place: Place) -> Place
-    ensures { λ r. ⌜ r .0 ≡ pick (eqb sides 0) (place .0) (first .0) ⌝ }
-{
-    if sides == 0 { place } else { first }
+    firsts[k] = place.0 as u16;
+    sides[k] += 1;
 }

@@ -9,9 +9,10 @@
 // 0; the entries beyond the last area stay so. tally asks that the bytes open, the lookups that there is an entry: whoever calls
 // has checked.
 //
-// One loop over the areas of all places, which the crate `surveying` finds in one pass, counts the sides of all areas at once.
-// The source is document 01, "Moves". specs/Tallied.antt says what the lists hold, by the definitions with which the calls
-// `sides` and `area_first` answer; proofs/Lookups.antt has the laws for those who look up.
+// One loop over the areas of all places, which the crate `surveying` finds in one pass, counts the sides of all areas at once. It
+// goes from the last place down, so that the place noted last for an area is its first. The source is document 01, "Moves".
+// specs/Tallied.antt says what the lists hold, by the definitions with which the calls `sides` and `area_first` answer;
+// proofs/Lookups.antt has the laws for those who look up.
 mod counts;
 mod entries;
 

@@ -1,5 +1,4 @@
--- `tallying::counts::count_sides` meets its contract. The loop keeps `Tallying`: the sides before position p are counted. Assumes nothing.
-use Prim.Native.Nat.{_-_}
+-- `tallying::counts::count_sides` meets its contract. The loop keeps `Tallying`: the sides from position p on are noted. Assumes nothing.
 use native.Mathlib.Omega.{arith}
 use borrow.Author.Needs.{needs}
 use Rattle.tallying.proofs.Counting.{Tallying, tallied-start, tallied-position, sides-entry, firsts-entry, sides-fit, tallied-more, tallied-sides, tallied-firsts, tallied-all}
@@ -7,10 +6,10 @@ use Rattle.tallying.proofs.counts.count_sides.Statement.{statement}
 use Rattle.tallying.proofs.counts.count_sides.Tie as tie
 
 abbrev Inv-loop : tie.InvT-loop
-Inv-loop map areas sides₀ firsts₀ n p₀ sides firsts p = Tallying map sides₀ firsts₀ n p sides firsts
+Inv-loop map areas sides₀ firsts₀ p₀ sides firsts p = Tallying map sides₀ firsts₀ p sides firsts
 
 abbrev μ-loop : tie.MeasureT-loop
-μ-loop map areas sides₀ firsts₀ n p₀ sides firsts p = n - p
+μ-loop map areas sides₀ firsts₀ p₀ sides firsts p = p
 
 bits-a-requires : tie.Need-bits-a-requires Inv-loop μ-loop
 bits-a-requires c κs = search needs
@@ -18,18 +17,15 @@ bits-a-requires c κs = search needs
 loop-holds : tie.Need-loop-holds Inv-loop μ-loop
 loop-holds c = search tallied-start
 
-add-t10 : tie.Need-add-t10 Inv-loop μ-loop
-add-t10 c = search needs
-
 own-area-requires : tie.Need-own-area-requires Inv-loop μ-loop
-own-area-requires c κs = (search needs, search (tallied-position), search needs)
+own-area-requires c κs = (search needs, search tallied-position, search needs)
 
 note-side-requires : tie.Need-note-side-requires Inv-loop μ-loop
 note-side-requires c κs =
     (search (sides-entry, tallied-position), search (firsts-entry, tallied-position), search (sides-fit, tallied-position), search needs)
 
-add-p : tie.Need-add-p Inv-loop μ-loop
-add-p c = search needs
+sub-p : tie.Need-sub-p Inv-loop μ-loop
+sub-p c = search needs
 
 loop-less : tie.Need-loop-less Inv-loop μ-loop
 loop-less c = search needs
@@ -39,7 +35,7 @@ loop-again c =
     let noted = c .before .before .before .before in
     let own = noted .before .before .before in
     let i = own .before .before in
-    tallied-more _ _ _ _ _ _ _ (i .before .loop .inv) _ _ _ _ (noted .note-side .ensures) (omega arith) (i .loop-test .taken) (own .own-area .ensures)
+    tallied-more _ _ _ _ _ _ (i .before .loop .inv) _ _ _ _ (noted .note-side .ensures) (omega arith) (i .loop-test .taken) (own .own-area .ensures)
 
 same-length : tie.Need-same-length Inv-loop μ-loop
 same-length c = search needs
@@ -58,10 +54,9 @@ count-sides-spec =
     μ-loop
     bits-a-requires
     loop-holds
-    add-t10
     own-area-requires
     note-side-requires
-    add-p
+    sub-p
     loop-less
     loop-again
     same-length

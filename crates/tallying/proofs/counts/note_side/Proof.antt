@@ -1,23 +1,14 @@
 -- `tallying::counts::note_side` meets its contract. Assumes nothing.
 use borrow.Author.Needs.{needs}
-use Rattle.tallying.proofs.Lookups.{chosen-fits, side-counted, first-noted}
+use Rattle.tallying.proofs.Lookups.{side-fits, side-counted, first-noted}
 use Rattle.tallying.proofs.counts.note_side.Statement.{statement}
 use Rattle.tallying.proofs.counts.note_side.Tie as tie
-
-sides-of-requires : tie.Need-sides-of-requires
-sides-of-requires c κs = search needs
-
-first-of-requires : tie.Need-first-of-requires
-first-of-requires c κs = search needs
-
-first-so-far-requires : tie.Need-first-so-far-requires
-first-so-far-requires c κs = search needs
 
 index-of-requires : tie.Need-index-of-requires
 index-of-requires c κs = search needs
 
 cast-firsts : tie.Need-cast-firsts
-cast-firsts c = search (chosen-fits, needs)
+cast-firsts c = search needs
 
 mul-firsts : tie.Need-mul-firsts
 mul-firsts c = search needs
@@ -25,14 +16,14 @@ mul-firsts c = search needs
 slice-write-firsts : tie.Need-slice-write-firsts
 slice-write-firsts c = search needs
 
-add-sides : tie.Need-add-sides
-add-sides c = search needs
-
-cast-sides : tie.Need-cast-sides
-cast-sides c = search needs
-
 mul-sides : tie.Need-mul-sides
 mul-sides c = search needs
+
+slice-read-sides : tie.Need-slice-read-sides
+slice-read-sides c = search needs
+
+add-sides : tie.Need-add-sides
+add-sides c = search side-fits
 
 slice-write-sides : tie.Need-slice-write-sides
 slice-write-sides c = search needs
@@ -50,16 +41,13 @@ pub note-side-spec : {M : Type 1} → statement M
 note-side-spec =
     tie.close
     (tie.spec
-    sides-of-requires
-    first-of-requires
-    first-so-far-requires
     index-of-requires
     cast-firsts
     mul-firsts
     slice-write-firsts
-    add-sides
-    cast-sides
     mul-sides
+    slice-read-sides
+    add-sides
     slice-write-sides
     same-length
     same-length-2
