@@ -3,7 +3,7 @@
 -- status-same, slot-same == equal answers have one status, and leave one slot
 -- borders-same, points-same, borders-fit, points-fit == the same of opening, which has two slots
 -- left-status == the place left by a session, or its refusal, has the session's status
--- call-all, open-all == what the proofs search
+-- call-all == what the proofs of the calls with one slot search
 -- Assumes nothing.
 use mathlib.Core.Path.{_≡_, refl, ap, _∙_}
 use mathlib.Core.List.{List}
@@ -39,8 +39,6 @@ module _ (s : List ℕ) (a : Answer Size) where
 
   pub points-fit : a ≡ openOf s → valueOf (told (λ (z : Size). z .n) a) < 65536
   points-fit e = rw e (open-small s .1)
-
-pub ruleset open-all = (status-same, borders-same, points-same, borders-fit, points-fit, needs)
 
 -- ---- a session
 number-left : (o : Answer Outcome) → numberOf (told (λ (o : Outcome). o .place) o) ≡ numberOf o

@@ -8,9 +8,7 @@ pack-requires : tie.Need-pack-requires
 pack-requires c κs = search needs
 
 give-length-requires : tie.Need-give-length-requires
-give-length-requires c κs =
-    let k = c .before .before .before .before .before in
-    pack-small _ _ _ _ _ (k .pack .result) (k .pack .ensures)
+give-length-requires c κs = search pack-small
 
 same-length : tie.Need-same-length
 same-length c = search needs
@@ -19,10 +17,7 @@ same-length-2 : tie.Need-same-length-2
 same-length-2 c = search needs
 
 returns : tie.Need-returns
-returns c =
-    let k = c .before .before .before .before .before .before in
-    let g = c .give-length .ensures in
-    pack-returns _ _ _ _ _ (k .pack .result) (k .pack .ensures) _ _ _ (g .0) (g .1)
+returns c = search pack-returns
 
 pub pmap-pack-spec : {M : Type 1} → statement M
 pmap-pack-spec =

@@ -9,7 +9,7 @@ unpack-requires : tie.Need-unpack-requires
 unpack-requires c κs = search needs
 
 give-borders-requires : tie.Need-give-borders-requires
-give-borders-requires c κs = unpack-small _ _ _ _ (c .before .before .before .before .before .unpack .ensures .0)
+give-borders-requires c κs = search unpack-small
 
 same-length : tie.Need-same-length
 same-length c = search needs
@@ -18,12 +18,7 @@ same-length-2 : tie.Need-same-length-2
 same-length-2 c = search needs
 
 returns : tie.Need-returns
-returns c =
-    let u = c .before .before .before .before .before .before .unpack .ensures in
-    let g = c .give-borders .ensures in (
-      unpack-status _ _ _ _ _ (g .0) (u .0),
-      (u .1 .0, (u .1 .1, slot-same _ _ _ _ (g .1) (u .0))),
-    )
+returns c = (search unpack-status, (search needs, (search needs, search slot-same)))
 
 pub pmap-unpack-spec : {M : Type 1} → statement M
 pmap-unpack-spec =
