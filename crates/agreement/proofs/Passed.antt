@@ -48,7 +48,7 @@ module _ (D : Drawing) (seven : PassesSeven D) where
         meets = meets;
         nests = λ a b two alike x.
             elim (true-or-false (isMarked D a)) [
-              | inl t ↦ tree-nests D six a b t (sym alike ∙ t) x
+              | inl t ↦ tree-nests D six .never a b t (sym alike ∙ t) x
               | inr f ↦
                   let below = alternate-below D a b meets x in
                   seven .flat a b (record {

@@ -5,7 +5,7 @@ pub mod AlikeDrawings
 pub mod Faithful
 pub mod Answers
 pub mod Turan
-pub mod Calls
+pub mod OneCall
 pub mod Cells
 pub mod Schedule
 pub mod Demands

@@ -1,12 +1,17 @@
--- Drawings on one or two points by computation: the tour's length alone does not show a tree, which crossing is the first, in which
--- order the areas across the sides are met, and when a drawing is connected. Assumes nothing.
+-- Drawings on one or two points by computation: which starts are in range, the tour's length alone does not show a tree, how many
+-- borders a tree has, which crossing is the first, in which order the areas across the sides are met, and when a drawing is
+-- connected. Assumes nothing.
 use mathlib.Core.Path.{_≡_, refl}
 use mathlib.Core.Bool.{true, false}
 use mathlib.Core.List.{List, [], _∷_}
-use Prim.Native.Nat.{ℕ}
+use Prim.Native.Nat.{ℕ, zero, suc, _<_, _≤_}
+use native.Mathlib.Omega.{arith}
+use lib.ListN.{getD}
+use Rattle.count.specs.Below.{count}
 use Rattle.answers.specs.Answer.{answer}
-use Rattle.drawing.specs.Drawing.{Drawing, positionOf}
-use Rattle.drawing.specs.Checks.{joined, connected, fewMarks, crosses, firstCrossing}
+use Rattle.drawing.specs.Drawing.{Drawing, borders, ends, border, other, marked, cells, positionOf}
+use Rattle.drawing.specs.Checks.{inRange, Linked, joined, connected, fewMarks, crosses, firstCrossing}
+use Rattle.drawing.specs.Tree.{SuggestedTree}
 use Rattle.drawing.specs.Session.{Call}
 use Rattle.drawing.specs.Book.{bookSession, bookLandings}
 
@@ -26,10 +31,38 @@ apart = record { turning = 0 ∷ 1 ∷ []; marks = 0 ∷ []; start = 0 }
 abbrev loops : Drawing
 loops = record { turning = 1 ∷ 0 ∷ 3 ∷ 2 ∷ []; marks = 1 ∷ 1 ∷ []; start = 0 }
 
+-- one marked border, with this start
+abbrev one : ℕ → Drawing
+one start = record { turning = 0 ∷ 1 ∷ []; marks = 1 ∷ []; start = start }
+
+-- a marked loop
+abbrev loop : Drawing
+loop = record { turning = 1 ∷ 0 ∷ []; marks = 1 ∷ []; start = 0 }
+
+-- the two ends of a marked border are linked
+both-linked : (g h : ℕ) → g < 2 → h < 2 → Linked apart (marked (1 ∷ [])) g h
+unfolding border other
+both-linked zero zero l k = Linked.here
+both-linked zero (suc zero) l k = Linked.across 0 refl Linked.here
+both-linked (suc zero) zero l k = Linked.across 1 refl Linked.here
+both-linked (suc zero) (suc zero) l k = Linked.here
+both-linked (suc (suc g)) h l k = absurd (omega arith)
+both-linked zero (suc (suc h)) l k = absurd (omega arith)
+both-linked (suc zero) (suc (suc h)) l k = absurd (omega arith)
+
+one-mark : (e : ℕ) → e < 1 → getD (1 ∷ []) e 0 ≤ 1
+one-mark zero l = omega arith
+one-mark (suc e) l = absurd (omega arith)
+
 pub record Cases : Type 0 where
+  -- 2m is no end
+  pub starts-at-1 : inRange (one 1) ≡ true
+  pub not-at-2 : inRange (one 2) ≡ false
   -- 01: "two interlaced marked loops on one point also tour all ends"
   pub tours-all : positionOf (interlaced (1 ∷ 1 ∷ [])) 2 ≡ 3
   pub no-tree : fewMarks (interlaced (1 ∷ 1 ∷ [])) ≡ false
+  -- n marks are one too many
+  pub marked-loop : fewMarks loop ≡ false
   pub alternate : crosses (interlaced (0 ∷ 0 ∷ [])) ≡ true
   pub nest : crosses nested ≡ false
   pub nest-none : firstCrossing nested ≡ []
@@ -51,13 +84,18 @@ pub record Cases : Type 0 where
   -- but it is a path between its points; two loops on two points have none
   pub one-piece : connected apart ≡ true
   pub two-pieces : connected loops ≡ false
+  -- and the one border of a tree: n - 1 borders, not n
+  pub one-border : SuggestedTree apart (1 ∷ [])
 
 pub cases : Cases
-unfolding positionOf fewMarks crosses firstCrossing bookSession bookLandings joined connected
+unfolding inRange positionOf fewMarks crosses firstCrossing bookSession bookLandings joined connected borders ends cells count
 cases =
     record {
+      starts-at-1 = refl;
+      not-at-2 = refl;
       tours-all = refl;
       no-tree = refl;
+      marked-loop = refl;
       alternate = refl;
       nest = refl;
       nest-none = refl;
@@ -70,4 +108,6 @@ cases =
       not-joined = refl;
       one-piece = refl;
       two-pieces = refl;
+      one-border =
+          record { one-each = refl; binary = one-mark; number = refl; join = record { link = both-linked } };
     }

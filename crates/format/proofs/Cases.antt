@@ -1,5 +1,5 @@
 -- Two maps and some drawings by computation: in B and B* a 0 opens and a 1 closes, a loop joins its point with itself, 7 carries
--- its pair, and in which order finding marks declines. Assumes nothing.
+-- its pair, in which order finding marks declines, and which cards a box already sold takes. Assumes nothing.
 use mathlib.Core.Path.{_≡_, refl}
 use mathlib.Core.Bool.{true, false}
 use mathlib.Core.List.{List, [], _∷_}
@@ -7,6 +7,7 @@ use Prim.Native.Nat.{ℕ}
 use Rattle.answers.specs.Answer.{answer, refusedWith}
 use Rattle.words.specs.declared.family.Family.the-variants.{Round as round, Square as square}
 use Rattle.drawing.specs.Drawing.{Drawing}
+use Rattle.format.specs.Before.{refusalBefore}
 use Rattle.format.specs.Bytes.{longest, wordIn}
 use Rattle.format.specs.Calls.{joiningOf}
 use Rattle.format.specs.Pack.{packOf}
@@ -18,6 +19,10 @@ stubMap = 0x01 ∷ 0x00 ∷ 0x02 ∷ 0x00 ∷ 0x01 ∷ 0x00 ∷ 0x03 ∷ 0x02 �
 
 abbrev enclaveMap : List ℕ
 enclaveMap = 0x01 ∷ 0x00 ∷ 0x01 ∷ 0x00 ∷ 0x02 ∷ 0x00 ∷ 0x00 ∷ 0x02 ∷ []
+
+-- (b) without the count of areas
+abbrev stubThen : List ℕ
+stubThen = 0x01 ∷ 0x00 ∷ 0x02 ∷ 0x00 ∷ 0x03 ∷ 0x02 ∷ []
 
 -- document 01's example of 7
 abbrev interlaced : Drawing
@@ -39,9 +44,12 @@ pub record Cases : Type 0 where
   pub ring-found : marksRefusal (two (2 ∷ 3 ∷ 0 ∷ 1 ∷ [])) 12 ≡ 0
   pub loops-apart : marksRefusal (two (1 ∷ 0 ∷ 3 ∷ 2 ∷ [])) 12 ≡ 21
   pub four-first : marksRefusal (two (1 ∷ 1 ∷ 3 ∷ 2 ∷ [])) 12 ≡ 4
+  -- a box already sold takes a card of then, and not one of today
+  pub stub-then : refusalBefore stubThen ≡ 0
+  pub stub-now : refusalBefore stubMap ≡ 9
 
 pub cases : Cases
-unfolding wordIn joiningOf packOf marksRefusal
+unfolding wordIn joiningOf packOf marksRefusal refusalBefore
 cases =
     record {
       stub-opens = refl;
@@ -53,4 +61,6 @@ cases =
       ring-found = refl;
       loops-apart = refl;
       four-first = refl;
+      stub-then = refl;
+      stub-now = refl;
     }

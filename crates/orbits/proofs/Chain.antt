@@ -65,10 +65,10 @@ module _ {n : ℕ} {F : ℕ → ℕ → ℕ} {E : ℕ → Bool} {X Y : ℕ → �
       → cycles n (F d) + count E d ≡ cycles n (F 0)
   chain-joins d c apart =
       chain-induct (λ m k. m + k ≡ cycles n (F 0)) d c (omega arith)
-      (λ i k l p t x q. omega (arith, exchange-joins p x (apart i l t) .1))
+      (λ i k l p t x q. omega (arith, exchange-joins p x (apart i l t) .less))
 
   pub chain-parts : (d : ℕ) → Chain n F E X Y d → ((i : ℕ) → i < d → E i ≡ true → SameCycle (F i) (X i) (Y i))
       → cycles n (F d) ≡ cycles n (F 0) + count E d
   chain-parts d c same =
       chain-induct (λ m k. m ≡ cycles n (F 0) + k) d c (omega arith)
-      (λ i k l p t x q. omega (arith, exchange-parts p x (same i l t) .1))
+      (λ i k l p t x q. omega (arith, exchange-parts p x (same i l t) .more))

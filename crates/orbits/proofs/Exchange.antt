@@ -15,6 +15,7 @@ use Rattle.count.specs.Below.{pick}
 use Rattle.count.proofs.Logic.{lt-or-ge, same-or-not, bool-same, pick-yes, pick-no}
 use Rattle.count.proofs.Below.{count-one-less}
 use Rattle.orbits.specs.Cycles.{Permutes, SameCycle, low, leads, cycles}
+use Rattle.orbits.specs.Exchange.{OneLess, OneMore}
 use Rattle.orbits.proofs.Same.{same-cycle-trans, same-cycle-sym, same-cycle-induct, same-cycle-decided}
 use Rattle.orbits.proofs.Low.{low-same, low-le, low-below, low-is, low-step, low-low, leads-is, leads-from, leads-not, same-cycle-low, low-same-cycle}
 pub use Rattle.orbits.proofs.Exchanged.{Exchanged, exchange-sym, exchange-turn, exchange-permutes, exchange-meets, exchange-keeps, exchange-severs, Touched, exchange-new}
@@ -110,25 +111,27 @@ module _ {n : ℕ} {f g : ℕ → ℕ} {x y a b : ℕ} (p : Permutes n f) (E : E
       count-one-less (leads n f) (leads n g) n b (omega (arith, low-below n f y (E .y-below))) (leads-from n f b b-led) b-leads-no-more leads-kept
 
 module _ {n : ℕ} {f g : ℕ → ℕ} {x y : ℕ} (p : Permutes n f) (E : Exchanged n f g x y) where
-  pub exchange-joins : (SameCycle f x y → ⊥) → SameCycle g x y × (cycles n g + 1 ≡ cycles n f)
-  exchange-joins no-way = (
-    exchange-meets p E no-way,
-    elim (lt-or-ge (low n f x) (low n f y)) [
-      | inl h ↦ fewer p E refl refl h
-      | inr h ↦
-          elim (same-or-not (low n f x) (low n f y)) [
-            | inl e ↦ absurd (no-way (low-same-cycle p x y (E .x-below) (E .y-below) e))
-            | inr d ↦ fewer p (exchange-turn E) refl refl (omega arith)
-          ]
-    ],
-  )
+  pub exchange-joins : (SameCycle f x y → ⊥) → OneLess n f g x y
+  exchange-joins no-way =
+      record {
+        together = exchange-meets p E no-way;
+        less =
+            elim (lt-or-ge (low n f x) (low n f y)) [
+              | inl h ↦ fewer p E refl refl h
+              | inr h ↦
+                  elim (same-or-not (low n f x) (low n f y)) [
+                    | inl e ↦ absurd (no-way (low-same-cycle p x y (E .x-below) (E .y-below) e))
+                    | inr d ↦ fewer p (exchange-turn E) refl refl (omega arith)
+                  ]
+            ];
+      }
 
 module _ {n : ℕ} {f g : ℕ → ℕ} {x y : ℕ} (p : Permutes n f) (E : Exchanged n f g x y) where
-  pub exchange-parts : SameCycle f x y → (SameCycle g x y → ⊥) × (cycles n g ≡ cycles n f + 1)
+  pub exchange-parts : SameCycle f x y → OneMore n f g x y
   exchange-parts s =
       let no-way = exchange-severs p E s in
       let r = exchange-joins (exchange-permutes p E) (exchange-sym E) no-way in
-      (no-way, sym (r .1))
+      record { separate = no-way; more = sym (r .less) }
 
   pub exchange-moves : (cycles n g ≤ cycles n f + 1) × (cycles n f ≤ cycles n g + 1)
   exchange-moves =

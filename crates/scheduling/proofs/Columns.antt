@@ -21,7 +21,7 @@ use Rattle.count.proofs.Logic.{pick-yes, pick-no}
 use Rattle.text.specs.Decimal.{codes, space, lineFeed, decimal, aligned}
 use Rattle.text.specs.Schedule.{perPage, pageHeading, column, gap, Row, rowLine, rowCells, totalLine}
 use Rattle.text.proofs.Short.{decimal-length}
-use Rattle.text.proofs.Aligned.{aligned-within}
+use Rattle.text.proofs.Columns.{aligned-within}
 use Rattle.printing.specs.Writing.{Wrote}
 use Rattle.printing.proofs.Writes.{wrote-none, wrote-then, wrote-as}
 use Rattle.scheduling.specs.Breaks.{pageBreak}

@@ -4,7 +4,7 @@ pub mod Decimal
 pub mod Lines
 pub mod Exact
 pub mod Short
-pub mod Aligned
+pub mod Columns
 pub mod Shown
 pub mod Pages
 pub mod Running

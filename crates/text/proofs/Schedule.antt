@@ -39,7 +39,7 @@ use Rattle.text.specs.Schedule.{column, gap, Row, rowOf, rowsOf, rowCell
 use Rattle.text.specs.Statements.{LineFits, AreasDown, Answered, Scheduled}
 use Rattle.text.proofs.Decimal.{decimal-digits, decides-digit}
 use Rattle.text.proofs.Short.{decimal-length}
-use Rattle.text.proofs.Aligned.{aligned-within}
+use Rattle.text.proofs.Columns.{aligned-within}
 use Rattle.text.proofs.Shown.{shown-line}
 use Rattle.text.proofs.Pages.{pages-down, page-full, page-last, sum-more}
 

@@ -135,7 +135,7 @@ module _ (m : ℕ) (f : ℕ → ℕ) (perm : Permutes (2 * m) f) (one : cycles (
         let E : Exchanged (2 * m) (λ h. f (over none h)) (λ h. f (over (only a) h)) x (other x)
         = exchange-at m f none (only a) x bx refl (eq-eqb (border x) a (A .at-p))
         (λ e b d. sym (ne-eqb e a (λ q. d (q ∙ sym (A .at-p))))) in
-        omega (arith, on, exchange-parts pn E (one-cycle pn on x (other x) bx (other-below m x bx)) .1)
+        omega (arith, on, exchange-parts pn E (one-cycle pn on x (other x) bx (other-below m x bx)) .more)
 
     pub alternate-one : cycles (2 * m) (λ h. f (over (pair a b) h)) ≡ 1
     alternate-one =
@@ -146,7 +146,7 @@ module _ (m : ℕ) (f : ℕ → ℕ) (perm : Permutes (2 * m) f) (one : cycles (
         (ne-eqb (border y) a (λ e. alternate-apart (sym e ∙ A .at-q)))
         (either-left (eqb (border y) b) (eqb (border y) a) (eq-eqb (border y) b (A .at-q)))
         (λ e k d. sym (ap (λ t. t || eqb e a) (ne-eqb e b (λ q. d (q ∙ sym (A .at-q)))))) in
-        omega (arith, only-two, exchange-joins (over-permutes m f (only a) perm) E (λ c. alternate-severs (rw o c)) .1)
+        omega (arith, only-two, exchange-joins (over-permutes m f (only a) perm) E (λ c. alternate-severs (rw o c)) .less)
 
     pub alternate-few : (S : ℕ → Bool) → S a ≡ true → S b ≡ true → cycles (2 * m) (λ h. f (over S h)) + 1 ≤ count S m
     alternate-few S sa sb =

@@ -1,4 +1,5 @@
 -- A spanning tree's tour: the laws.
+pub mod Cases
 pub mod Exchange
 pub mod Merging
 pub mod Trees

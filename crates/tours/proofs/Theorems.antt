@@ -23,9 +23,9 @@ use Rattle.answers.specs.Answer.{Kind}
 use Rattle.orbits.specs.Cycles.{Permutes, cycles}
 use Rattle.orbits.proofs.Classes.{cycles-same}
 use Rattle.drawing.specs.Drawing.{Drawing, borders, ends, border, turn, isMarked, over, walk, around, cells, endAt, positionOf, isSecond}
-use Rattle.drawing.specs.Checks.{PassesSix, Alternate, Crossing, markCount}
+use Rattle.drawing.specs.Checks.{PassesSix, Alternate, markCount}
 use Rattle.drawing.proofs.Ends.{turn-permutes, over-over, two-places}
-use Rattle.tours.specs.Tour.{MeetsAll}
+use Rattle.tours.specs.Tour.{MeetsAll, Nests, NotFlat}
 use Rattle.tours.proofs.Exchange.{over-permutes, over-rest}
 use Rattle.drawing.proofs.Cells.{cells-are, points-are}
 use Rattle.tours.proofs.Tour.{tour-permutes, start-below, tree-one-cycle}
@@ -86,32 +86,38 @@ alternate-few-in D six pos S a b sa sb A =
     alternate-few (borders D) (walk D (isMarked D)) (tour-permutes D six) (tree-one-cycle D six pos) (D .start) (start-below D six pos)
     (alternates D a b A) S sa sb
 
-pub tree-nests : (D : Drawing) → PassesSix D → (a b : ℕ) → isMarked D a ≡ true → isMarked D b ≡ true → Alternate D a b → ⊥
+pub tree-nests : (D : Drawing) → PassesSix D → Nests D
 unfolding ends markCount walk
-tree-nests D six a b ma mb A =
-    let pos : 0 < borders D = omega (arith, A .s-end) in
-    let few = alternate-few-in D six pos (isMarked D) a b ma mb A in
-    let p : Permutes (ends D) (turn D) = turn-permutes D (six .range) (six .entries) in
-    let same : cycles (ends D) (turn D) ≡ cycles (ends D) (λ h. walk D (isMarked D) (over (isMarked D) h))
-    = cycles-same p (λ h b. ap (turn D) (sym (over-over (isMarked D) h))) in
-    omega (arith, few, same, points-are D pos, six .few .fewer)
+tree-nests D six =
+    record {
+      never = λ a b ma mb A.
+          let pos : 0 < borders D = omega (arith, A .s-end) in
+          let few = alternate-few-in D six pos (isMarked D) a b ma mb A in
+          let p : Permutes (ends D) (turn D) = turn-permutes D (six .range) (six .entries) in
+          let same : cycles (ends D) (turn D) ≡ cycles (ends D) (λ h. walk D (isMarked D) (over (isMarked D) h))
+          = cycles-same p (λ h b. ap (turn D) (sym (over-over (isMarked D) h))) in
+          omega (arith, few, same, points-are D pos, six .few .fewer);
+    }
 
-pub crossing-not-flat : (D : Drawing) → PassesSix D → (a b : ℕ) → Crossing D a b → cells D Kind.area + cells D Kind.point ≤ borders D
+pub crossing-not-flat : (D : Drawing) → PassesSix D → NotFlat D
 unfolding ends markCount around walk
-crossing-not-flat D six a b C =
-    let pos : 0 < borders D = omega (arith, C .first-border) in
-    let U : ℕ → Bool = λ e. not (isMarked D e) in
-    let ua : U a ≡ true = rw (C .first-unmarked) in
-    let ub : U b ≡ true = rw (C .second-unmarked) in
-    let few = alternate-few-in D six pos U a b ua ub (C .alternate) in
-    let same : cycles (ends D) (λ h. walk D (isMarked D) (over U h)) ≡ cycles (ends D) (around D Kind.area)
-    = cycles-same (over-permutes (borders D) (walk D (isMarked D)) U (tour-permutes D six)) (λ h b. ap (turn D) (over-rest (isMarked D) h)) in
-    omega (
-      arith,
-      few,
-      same,
-      cells-are D Kind.area pos,
-      marks-at-least D (six .range) (six .entries) (six .joins),
-      six .few .fewer,
-      count-not (isMarked D) (borders D),
-    )
+crossing-not-flat D six =
+    record {
+      few = λ a b C.
+          let pos : 0 < borders D = omega (arith, C .first-border) in
+          let U : ℕ → Bool = λ e. not (isMarked D e) in
+          let ua : U a ≡ true = rw (C .first-unmarked) in
+          let ub : U b ≡ true = rw (C .second-unmarked) in
+          let few = alternate-few-in D six pos U a b ua ub (C .alternate) in
+          let same : cycles (ends D) (λ h. walk D (isMarked D) (over U h)) ≡ cycles (ends D) (around D Kind.area)
+          = cycles-same (over-permutes (borders D) (walk D (isMarked D)) U (tour-permutes D six)) (λ h b. ap (turn D) (over-rest (isMarked D) h)) in
+          omega (
+            arith,
+            few,
+            same,
+            cells-are D Kind.area pos,
+            marks-at-least D (six .range) (six .entries) (six .joins),
+            six .few .fewer,
+            count-not (isMarked D) (borders D),
+          );
+    }
