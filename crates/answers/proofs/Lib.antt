@@ -1,5 +1,5 @@
 -- Answers and checks: the laws.
+pub mod Computed
 pub mod Fixed
 pub mod Order
-pub mod Small
 pub mod Steps
