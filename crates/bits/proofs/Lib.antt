@@ -2,5 +2,6 @@
 pub mod Digits
 pub mod Fields
 pub mod Laws
+pub mod Letters
 pub mod Loops
 pub mod Stores

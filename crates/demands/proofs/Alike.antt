@@ -17,12 +17,12 @@ use borrow.Author.Tests.{ltb-true, leb-true}
 use Rattle.count.specs.Below.{pick}
 use Rattle.count.proofs.Logic.{true-or-false, both-left, both-right, pick-no}
 use Rattle.answers.specs.Answer.{answer, refused, Kind}
-use Rattle.words.specs.Brackets.{Bracket, Balanced, mate, step, number, first}
+use Rattle.words.specs.Brackets.{Bracket, Balanced, step, number, first}
 use Rattle.words.specs.declared.family.Family.{Family}
 use Rattle.words.specs.declared.family.Family.the-variants.{Round as round, Square as square}
-use Rattle.words.specs.Word.{Letter, Word, seen, mateIn, view}
+use Rattle.words.specs.Word.{Letter, Word, seen, mateIn}
 use Rattle.words.proofs.Step.{step-below}
-use Rattle.words.proofs.Same.{mate-same, step-same, back-same, number-same, isFirst-same, isLast-same, first-same, size-same}
+use Rattle.words.proofs.Same.{word, seen-same, mate-in-same, step-same, back-same, number-same, isFirst-same, isLast-same, first-same, size-same}
 use Rattle.drawing.specs.Session.{Call}
 use Rattle.drawing.specs.Neighbours.{landings}
 use Rattle.drawing.proofs.Neighbours.{neighbours-same, landings-same}
@@ -35,37 +35,23 @@ pub record Alike (v w : Word) : Type 0 where
   pub sizes : v .size ≡ w .size
   pub letters : (p : ℕ) → p < w .size → v .letter p ≡ w .letter p
 
--- a word of n letters
-abbrev pub word : ℕ → (ℕ → Letter) → Word
-word n f = record { size = n; letter = f }
-
 module _ (n : ℕ) (f g : ℕ → Letter) (same : (p : ℕ) → p < n → f p ≡ g p) where
-  pub seen-same : (K : Family) (p : ℕ) → p < n → seen K (word n f) p ≡ seen K (word n g) p
-  unfolding seen
-  seen-same K p l = ap (view K) (same p l)
-
-  pub mate-in-same : (p : ℕ) → p < n → mateIn (word n f) p ≡ mateIn (word n g) p
-  unfolding mateIn
-  mate-in-same p l =
-      mate-same (seen (f p .family) (word n f)) (seen (f p .family) (word n g)) n (seen-same (f p .family)) p l
-      ∙ ap (λ x. mate (seen (x .family) (word n g)) n p) (same p l)
-
   move-same : (c : Call) (p : ℕ) → p < n → moveIn (word n f) c p ≡ moveIn (word n g) c p
   unfolding moveIn
-  move-same Call.cross p l = ap suc (mate-in-same p l)
+  move-same Call.cross p l = ap suc (mate-in-same n f g same p l)
   move-same Call.turn p l =
       rw (
-        isLast-same (seen round (word n f)) (seen round (word n g)) n (seen-same round) p l,
-        step-same (seen round (word n f)) (seen round (word n g)) n (seen-same round) p l,
+        isLast-same (seen round (word n f)) (seen round (word n g)) n (seen-same n f g same round) p l,
+        step-same (seen round (word n f)) (seen round (word n g)) n (seen-same n f g same round) p l,
       )
   move-same Call.turn-back p l =
       rw (
-        isFirst-same (seen round (word n f)) (seen round (word n g)) n (seen-same round) p (omega arith),
-        back-same (seen round (word n f)) (seen round (word n g)) n (seen-same round) p l,
+        isFirst-same (seen round (word n f)) (seen round (word n g)) n (seen-same n f g same round) p (omega arith),
+        back-same (seen round (word n f)) (seen round (word n g)) n (seen-same n f g same round) p l,
       )
-  move-same Call.along p l = ap suc (step-same (seen square (word n f)) (seen square (word n g)) n (seen-same square) p l)
-  move-same Call.point p l = number-same (seen round (word n f)) (seen round (word n g)) n (seen-same round) p (omega arith)
-  move-same Call.area p l = number-same (seen square (word n f)) (seen square (word n g)) n (seen-same square) p (omega arith)
+  move-same Call.along p l = ap suc (step-same (seen square (word n f)) (seen square (word n g)) n (seen-same n f g same square) p l)
+  move-same Call.point p l = number-same (seen round (word n f)) (seen round (word n g)) n (seen-same n f g same round) p (omega arith)
+  move-same Call.area p l = number-same (seen square (word n f)) (seen square (word n g)) n (seen-same n f g same square) p (omega arith)
 
   call-same : (c : Call) (i : ℕ) → atPlace (word n f) c i ≡ atPlace (word n g) c i
   unfolding atPlace
@@ -85,11 +71,11 @@ module _ (n : ℕ) (f g : ℕ → Letter) (same : (p : ℕ) → p < n → f p �
   unfolding firstIn
   first-alike c k =
       ap (λ x. pick (eqb n 0) 0 (suc x))
-      (first-same (seen (familyOfKind c) (word n f)) (seen (familyOfKind c) (word n g)) n (seen-same (familyOfKind c)) k)
+      (first-same (seen (familyOfKind c) (word n f)) (seen (familyOfKind c) (word n g)) n (seen-same n f g same (familyOfKind c)) k)
 
   places-alike : (c : Kind) (k : ℕ) → placesIn (word n f) c k ≡ placesIn (word n g) c k
   unfolding placesIn
-  places-alike c k = size-same (seen (familyOfKind c) (word n f)) (seen (familyOfKind c) (word n g)) n (seen-same (familyOfKind c)) k
+  places-alike c k = size-same (seen (familyOfKind c) (word n f)) (seen (familyOfKind c) (word n g)) n (seen-same n f g same (familyOfKind c)) k
 
 -- one place more of the search, as a choice by its test
 join-step : (w : Word) (v k p : ℕ) → joinIn w v (suc k) p

@@ -16,12 +16,12 @@ use Rattle.words.specs.declared.family.Family.{Family}
 use Rattle.words.specs.declared.family.Family.the-variants.{Round as round}
 use Rattle.words.specs.Word.{Letter, Word, seen, mateIn}
 use Rattle.words.proofs.Step.{step-below}
-use Rattle.words.proofs.Same.{step-same}
-use Rattle.format.specs.Bytes.{familyBit}
+use Rattle.words.proofs.Same.{word, seen-same, mate-in-same, step-same}
+use Rattle.bits.specs.Letters.{familyBit}
 use Rattle.format.specs.Pack.{opensBefore, endIn, positionIn, drawingOf}
 use Rattle.words.proofs.Mates.{mate-in-below}
 use Rattle.roundtrip.proofs.Ends.{position-in-below}
-use Rattle.demands.proofs.Alike.{Alike, word, seen-same, mate-in-same}
+use Rattle.demands.proofs.Alike.{Alike}
 
 module _ (n : ℕ) (f g : ℕ → Letter) (same : (p : ℕ) → p < n → f p ≡ g p) (nested : (K : Family) → Balanced (seen K (word n g)) n) where
   opens-same : (p : ℕ) → p ≤ n → opensBefore (word n f) p ≡ opensBefore (word n g) p

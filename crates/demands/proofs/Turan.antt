@@ -11,8 +11,9 @@ use Rattle.count.proofs.Lists.{table-same, gather-same}
 use Rattle.words.specs.declared.family.Family.{Family}
 use Rattle.words.specs.declared.family.Family.the-variants.{Round as round, Square as square}
 use Rattle.words.specs.Word.{sameFamily}
+use Rattle.bits.specs.Letters.{familyBit, closingBit}
 use Rattle.drawing.specs.Drawing.{Drawing, ends, isSecond}
-use Rattle.format.specs.Bytes.{headerOf, bytesOf, closingBit, familyBit, mapBytes, stringA, stringB}
+use Rattle.format.specs.Bytes.{headerOf, bytesOf, mapBytes, stringA, stringB}
 use Rattle.format.specs.Pack.{wordOf, sizeFor, packedBytes}
 use Rattle.demands.specs.Statements.{markedAt, turanBytes}
 

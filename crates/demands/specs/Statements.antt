@@ -31,12 +31,13 @@ use Rattle.orbits.specs.Cycles.{SameCycle}
 use Rattle.words.specs.Brackets.{closes, first, number}
 use Rattle.words.specs.declared.family.Family.the-variants.{Round as round}
 use Rattle.words.specs.Word.{Word, seen, mateIn}
+use Rattle.bits.specs.Letters.{closingBit}
 use Rattle.drawing.specs.Drawing.{Drawing, borders, ends, border, isMarked, around, cells, endAt, isSecond, lent}
 use Rattle.drawing.specs.Renumbered.{renumbered}
 use Rattle.drawing.specs.Checks.{PassesSix, PassesSeven, Crossing, firstCrossing, FirstCrossing}
 use Rattle.drawing.specs.Session.{Call}
 use Rattle.drawing.specs.Book.{bookSession, bookFirst, bookSize, bookNeighbours, bookJoining, numberAt, hasNumber, endsOn}
-use Rattle.format.specs.Bytes.{headerOf, sizeIn, writtenAreas, wordIn, bytesOf, closingBit, longest, mapLength}
+use Rattle.format.specs.Bytes.{headerOf, sizeIn, writtenAreas, wordIn, bytesOf, longest, mapLength}
 use Rattle.format.specs.Open.{Opens, openOf}
 use Rattle.format.specs.Calls.{mapSession, turnOf, turnBackOf, pointOf, areaOf, firstOf, sizeOf, neighboursOf, joiningOf}
 use Rattle.format.specs.Pack.{Room, sizeFor, packedBytes, packOf, unpackOf}

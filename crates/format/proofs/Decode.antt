@@ -27,12 +27,14 @@ use Rattle.words.specs.declared.family.Family.the-variants.{Round as round, Squ
 use Rattle.words.specs.Word.{seen}
 use Rattle.words.proofs.Thin.{Thins, thin-balanced}
 use Rattle.bits.specs.Strings.{bit, isBit, rank, brackets}
+use Rattle.bits.specs.Letters.{familyOf, familyBit, closingBit}
 use Rattle.bits.proofs.Laws.{bit-below-2}
-use Rattle.format.specs.Bytes.{sizeIn, bitsA, bitsB, partA, partB, familyOf, familyBit, closingBit, wordIn}
+use Rattle.bits.proofs.Letters.{family-is, bit-back, closed-back, spelled-tests, spelled-family, spelled-closing, spelled-other, spelled-own}
+use Rattle.format.specs.Bytes.{sizeIn, bitsA, bitsB, partA, partB, wordIn}
 use Rattle.format.specs.Bytes.{stringA, stringB, bytesOf, mapBytes}
 use Rattle.format.specs.Open.{openRefusal}
 use Rattle.format.proofs.Bits.{EachBelow, bytes-are}
-use Rattle.format.proofs.Strings.{inFamily, family-same, family-is, bit-back, closed-back, closing-bracket, families-all}
+use Rattle.format.proofs.Strings.{inFamily, families-all}
 use Rattle.format.proofs.Strings.{string-b-length, string-b-nth}
 use Rattle.format.proofs.Parts.{part-a-length, part-b-length, part-a-small, part-b-small, parts-are}
 use Rattle.format.specs.Fits.{Fits}
@@ -41,33 +43,29 @@ use Rattle.format.proofs.Passes.{Passes, opens-passes}
 module _ (s : List ℕ) where
   pub family-tests : (K : Family) (p : ℕ) → inFamily K (wordIn s) p ≡ isBit (familyBit K) (partA s) p
   unfolding wordIn
-  family-tests K p =
-      family-same K (familyOf (bit (partA s) p)) ∙ ap (λ v. eqb v (familyBit K)) (bit-back (bit (partA s) p) (bit-below-2 (partA s) p))
+  family-tests K p = spelled-tests (partA s) (λ L. bit (partB L s)) (bitsA (sizeIn s)) K p
 
   pub family-in : (K : Family) (p : ℕ) → bit (partA s) p ≡ familyBit K → wordIn s .letter p .family ≡ K
-  family-in K p e = family-is K (wordIn s .letter p .family) (family-tests K p ∙ eq-eqb (bit (partA s) p) (familyBit K) e)
+  unfolding wordIn
+  family-in K p e = spelled-family (partA s) (λ L. bit (partB L s)) (bitsA (sizeIn s)) K p e
 
   pub closing-in : (K : Family) (p : ℕ) → wordIn s .letter p .family ≡ K
       → wordIn s .letter p .closing ≡ eqb (bit (partB K s) (rank (familyBit K) (partA s) p)) 1
   unfolding wordIn
-  closing-in K p e = ap (λ L. eqb (bit (partB L s) (rank (familyBit L) (partA s) p)) 1) e
+  closing-in K p e = spelled-closing (partA s) (λ L. bit (partB L s)) (bitsA (sizeIn s)) K p e
 
   pub rank-counts : (K : Family) (p : ℕ) → count (inFamily K (wordIn s)) p ≡ rank (familyBit K) (partA s) p
   unfolding rank
   rank-counts K p = count-same (inFamily K (wordIn s)) (isBit (familyBit K) (partA s)) p (λ x l. family-tests K x)
 
   pub word-thins : (K : Family) (n : ℕ) → Thins (isBit (familyBit K) (partA s)) (seen K (wordIn s)) (brackets (partB K s)) n
-  unfolding seen brackets rank
+  unfolding wordIn brackets rank
   word-thins K n =
       record {
-        outside = λ p l f. pick-no (inFamily K (wordIn s) p) (pick (wordIn s .letter p .closing) closes opens) neither (family-tests K p ∙ f);
+        outside = λ p l f. spelled-other (partA s) (λ L. bit (partB L s)) (bitsA (sizeIn s)) K p f;
         inside = λ p l t.
-            let e : inFamily K (wordIn s) p ≡ true = family-tests K p ∙ t in
-            let j = rank (familyBit K) (partA s) p in
-            pick-yes (inFamily K (wordIn s) p) (pick (wordIn s .letter p .closing) closes opens) neither e
-            ∙ ap (λ c. pick c closes opens) (closing-in K p (family-is K (wordIn s .letter p .family) e))
-            ∙ closing-bracket (eqb (bit (partB K s) j) 1)
-            ∙ ap (λ v. pick (eqb v 0) opens closes) (closed-back (bit (partB K s) j) (bit-below-2 (partB K s) j));
+            spelled-own (partA s) (λ L. bit (partB L s)) (bitsA (sizeIn s)) K p t
+            (bit-below-2 (partB K s) (rank (familyBit K) (partA s) p));
       }
 
 module _ (s : List ℕ) (Q : Passes s) where

@@ -24,11 +24,13 @@ use Rattle.words.specs.declared.family.Family.the-variants.{Round as round, Squ
 use Rattle.words.specs.Word.{Letter, Word, seen}
 use Rattle.words.proofs.Thin.{Thins, thin-balanced}
 use Rattle.bits.specs.Strings.{bit, isBit, rank, brackets}
-use Rattle.format.specs.Bytes.{le16, areasOf, headerOf, sizeIn, bitsA, bitsB, partB, familyOf, familyBit, closingBit, letterIn, wordIn}
+use Rattle.bits.specs.Letters.{familyOf, familyBit, closingBit, letterIn}
+use Rattle.bits.proofs.Letters.{family-same, family-back, family-itself, closing-back, closing-bracket}
+use Rattle.format.specs.Bytes.{le16, areasOf, headerOf, sizeIn, bitsA, bitsB, partB, wordIn}
 use Rattle.format.specs.Bytes.{stringA, stringB, bytesOf, mapBytes, mapLength, startB}
 use Rattle.format.specs.Open.{openRefusal}
 use Rattle.format.proofs.Bits.{EachBelow, bytes-of-bit, bytes-of-unused, bytes-of-small}
-use Rattle.format.proofs.Strings.{inFamily, family-same, family-back, family-itself, closing-back, closing-bracket, families-all}
+use Rattle.format.proofs.Strings.{inFamily, families-all}
 use Rattle.format.proofs.Strings.{string-a-length, string-a-at, string-a-bits, string-b-length, string-b-at, string-b-bits, string-a-same, string-b-same}
 use Rattle.format.proofs.Parts.{Lengths, size-of-bytes, areas-of-bytes, map-length, part-a-is, part-b-is}
 use Rattle.format.specs.Fits.{Fits}
@@ -49,7 +51,7 @@ module _ (w : Word) where
       → bit (bytesOf (stringB K w)) (count (inFamily K w) p) ≡ closingBit (w .letter p .closing)
   b-reads K p l t = bytes-of-bit (stringB K w) (string-b-bits w K) (count (inFamily K w) p) ∙ string-b-at w K p l t
 
-  letter-reads : (p : ℕ) → p < w .size → letterIn (bytesOf (stringA w)) (λ K. bytesOf (stringB K w)) p ≡ w .letter p
+  letter-reads : (p : ℕ) → p < w .size → letterIn (bytesOf (stringA w)) (λ K. bit (bytesOf (stringB K w))) p ≡ w .letter p
   letter-reads p l =
       let K = w .letter p .family in
       let A = bytesOf (stringA w) in
@@ -93,8 +95,8 @@ module _ (z : Size) (w : Word) (F : Fits z w) where
   decode-encode = (
     ap bitsA fits-sized ∙ sym (F .size),
     λ p l.
-        ap (λ A. letterIn A (λ K. partB K (mapBytes z w)) p) (part-a-is z w fits-lengths)
-        ∙ ap (λ B. letterIn (bytesOf (stringA w)) B p) (fun-ext (part-b-is z w fits-lengths))
+        ap (λ A. letterIn A (λ K. bit (partB K (mapBytes z w))) p) (part-a-is z w fits-lengths)
+        ∙ ap (λ B. letterIn (bytesOf (stringA w)) (λ K. bit (B K)) p) (fun-ext (part-b-is z w fits-lengths))
         ∙ letter-reads w p l,
   )
 

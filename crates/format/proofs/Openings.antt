@@ -19,8 +19,9 @@ use Rattle.words.proofs.Halves.{openings-half-all}
 use Rattle.words.proofs.Numbers.{openings, number-positive, number-range}
 use Rattle.words.proofs.Openings.{thin-openings}
 use Rattle.bits.specs.Strings.{isBit, rank, brackets}
+use Rattle.bits.specs.Letters.{familyBit}
 use Rattle.bits.proofs.Laws.{bracket-cases, rank-openings}
-use Rattle.format.specs.Bytes.{sizeIn, bitsA, bitsB, partA, partB, familyBit, wordIn}
+use Rattle.format.specs.Bytes.{sizeIn, bitsA, bitsB, partA, partB, wordIn}
 use Rattle.format.specs.Open.{openRefusal}
 use Rattle.format.specs.Calls.{familyOfKind, cellsIn}
 use Rattle.format.proofs.Passes.{opens-passes}

@@ -16,10 +16,11 @@ use Rattle.words.specs.declared.family.Family.{Family}
 use Rattle.words.specs.Word.{sameFamily, seen, mateIn}
 use Rattle.words.proofs.Thin.{thin-inner, thin-mate}
 use Rattle.bits.specs.Strings.{bit, isBit, rank, select, brackets}
+use Rattle.bits.specs.Letters.{familyBit}
 use Rattle.bits.proofs.Laws.{rank-mono, rank-before}
-use Rattle.format.specs.Bytes.{sizeIn, bitsA, bitsB, partA, partB, familyBit, wordIn}
+use Rattle.bits.proofs.Letters.{family-itself}
+use Rattle.format.specs.Bytes.{sizeIn, bitsA, bitsB, partA, partB, wordIn}
 use Rattle.format.specs.Open.{openRefusal}
-use Rattle.format.proofs.Strings.{family-itself}
 use Rattle.format.proofs.Passes.{opens-passes}
 use Rattle.format.proofs.Decode.{family-tests, word-thins, rank-all, passes-nested}
 

@@ -1,9 +1,5 @@
 -- The strings A, B and B* of a word: lengths, entries, and what they depend on.
 --
--- family-same         == the test of a letter's family is the test of its bit in A
--- family-back, bit-back, closing-back, closed-back == familyOf and familyBit, the closing test and closingBit undo one another
--- closing-bracket     == a letter that closes has bit 1, one that opens has bit 0
--- family-itself, family-is == the test of a family holds of that family and of no other
 -- inFamily K w        == whether position p is of family K
 -- families-all        == the positions of both families are all
 -- string-a-length, string-a-at, string-a-bits == A has a bit for each position, the bit of its family
@@ -25,46 +21,10 @@ use Rattle.words.specs.Brackets.{opens, closes}
 use Rattle.words.specs.declared.family.Family.{Family}
 use Rattle.words.specs.declared.family.Family.the-variants.{Round as round, Square as square}
 use Rattle.words.specs.Word.{sameFamily, Word}
-use Rattle.format.specs.Bytes.{familyOf, familyBit, closingBit, stringA, stringB}
+use Rattle.bits.specs.Letters.{familyBit, closingBit}
+use Rattle.bits.proofs.Letters.{family-small}
+use Rattle.format.specs.Bytes.{stringA, stringB}
 use Rattle.format.proofs.Bits.{EachBelow, each-below}
-
-pub family-same : (K L : Family) → sameFamily K L ≡ eqb (familyBit L) (familyBit K)
-family-same round round = refl
-family-same round square = refl
-family-same square round = refl
-family-same square square = refl
-
-pub family-back : (K : Family) → familyOf (familyBit K) ≡ K
-family-back round = refl
-family-back square = refl
-
-pub bit-back : (v : ℕ) → v < 2 → familyBit (familyOf v) ≡ v
-bit-back zero l = refl
-bit-back (suc zero) l = refl
-bit-back (suc (suc v)) l = absurd (omega arith)
-
-pub closing-back : (t : Bool) → eqb (closingBit t) 1 ≡ t
-closing-back true = refl
-closing-back false = refl
-
-pub closed-back : (v : ℕ) → v < 2 → closingBit (eqb v 1) ≡ v
-closed-back zero l = refl
-closed-back (suc zero) l = refl
-closed-back (suc (suc v)) l = absurd (omega arith)
-
-pub closing-bracket : (t : Bool) → pick t closes opens ≡ pick (eqb (closingBit t) 0) opens closes
-closing-bracket true = refl
-closing-bracket false = refl
-
-pub family-itself : (K : Family) → sameFamily K K ≡ true
-family-itself round = refl
-family-itself square = refl
-
-pub family-is : (K L : Family) → sameFamily K L ≡ true → L ≡ K
-family-is round round e = refl
-family-is round square e = absurd (true-not-false false e refl)
-family-is square round e = absurd (true-not-false false e refl)
-family-is square square e = refl
 
 family-other : (L : Family) → sameFamily square L ≡ not (sameFamily round L)
 family-other round = refl
@@ -78,10 +38,6 @@ families-all w n =
     ap (λ x. count (inFamily round w) n + x)
     (count-same (inFamily square w) (λ p. not (inFamily round w p)) n (λ p l. family-other (w .letter p .family)))
     ∙ count-not (inFamily round w) n
-
-family-small : (K : Family) → familyBit K < 2
-family-small round = omega arith
-family-small square = omega arith
 
 closing-small : (t : Bool) → closingBit t < 2
 closing-small true = omega arith

@@ -15,17 +15,16 @@
 -- bytesOf bits       == bits in bytes from a fresh byte, first bit lowest, unused bits 0
 -- mapBytes z w       == the bytes of the word w with m and n of z: the header, A, B and B*
 -- Assumes nothing.
-use mathlib.Core.Bool.{Bool, true, false}
 use mathlib.Core.List.{List, [], _∷_, _++_}
 use Prim.Native.Nat.{ℕ, _+_, _-_, _*_, _/_, _%_, _<_}
 use lib.ListN.{length, getD, take, drop}
-use lib.Dec.{eqb}
-use Rattle.count.specs.Below.{pick, table, gather}
+use Rattle.count.specs.Below.{table, gather}
 use Rattle.answers.specs.Answer.{Size}
 use Rattle.words.specs.declared.family.Family.{Family}
 use Rattle.words.specs.declared.family.Family.the-variants.{Round as round, Square as square}
-use Rattle.words.specs.Word.{sameFamily, Letter, Word}
+use Rattle.words.specs.Word.{sameFamily, Word}
 use Rattle.bits.specs.Strings.{bit, rank, bytesFor}
+use Rattle.bits.specs.Letters.{familyBit, closingBit, spelled}
 
 abbrev pub EachBelow : ℕ → List ℕ → Type 0
 EachBelow k s = (i : ℕ) → getD s i 0 < k
@@ -101,28 +100,9 @@ unfolding sizeIn startB mapLength
 partB round s = part s (startB round (sizeIn s)) (startB square (sizeIn s))
 partB square s = part s (startB square (sizeIn s)) (mapLength (sizeIn s))
 
--- 01: "A: bit i is 1 if place i is of a marked border. B: for the marked places in order, 0 at a border's first place, 1 at
--- its second. B* is the same for the unmarked ones."
-abbrev pub familyOf : ℕ → Family
-familyOf x = pick (eqb x 1) round square
-
-abbrev pub familyBit : Family → ℕ
-familyBit round = 1
-familyBit square = 0
-
-abbrev pub closingBit : Bool → ℕ
-closingBit true = 1
-closingBit false = 0
-
--- the letter at position p: A says the family, and the next unread bit of that family's string whether it closes
-abbrev pub letterIn : List ℕ → (Family → List ℕ) → ℕ → Letter
-letterIn A B p =
-    let K : Family = familyOf (bit A p) in
-    record { family = K; closing = eqb (bit (B K) (rank (familyBit K) A p)) 1 }
-
 unfoldable pub wordIn : List ℕ → Word
 unfolding sizeIn partA partB bit rank
-wordIn s = record { size = bitsA (sizeIn s); letter = letterIn (partA s) (λ K. partB K s) }
+wordIn s = spelled (partA s) (λ K. bit (partB K s)) (bitsA (sizeIn s))
 
 unfoldable pub stringA : Word → List ℕ
 unfolding table

@@ -26,9 +26,10 @@ use Rattle.answers.specs.Lent.{cleared}
 use Rattle.words.specs.Brackets.{step}
 use Rattle.words.specs.declared.family.Family.the-variants.{Round as round, Square as square}
 use Rattle.words.specs.Word.{Word, seen, mateIn}
+use Rattle.bits.specs.Letters.{familyBit}
 use Rattle.drawing.specs.Drawing.{Drawing, borders, ends, border, isMarked, cells, endAt, isSecond}
 use Rattle.drawing.specs.Checks.{LengthsFit, lengthsFit, InRange, inRange, Distinct, distinct, Joined, joined, FewMarks, fewMarks, Flat, crosses, firstCrossing}
-use Rattle.format.specs.Bytes.{sizeIn, longest, mapBytes, wordIn, familyBit}
+use Rattle.format.specs.Bytes.{sizeIn, longest, mapBytes, wordIn}
 use Rattle.format.specs.Open.{openChecks, openOf}
 
 unfoldable pub wordOf : Drawing → Word

@@ -10,7 +10,8 @@ use lending::least;
 use words::Family;
 ghost use mathlib.Core.Path.{_≡_};
 ghost use Prim.Native.Nat.{_+_, _<_, _≤_};
-ghost use Rattle.format.specs.Bytes.{header, sizeIn, bitsA, bitsB, startB, mapLength, part, partA, partB, familyBit};
+ghost use Rattle.bits.specs.Letters.{familyBit};
+ghost use Rattle.format.specs.Bytes.{header, sizeIn, bitsA, bitsB, startB, mapLength, part, partA, partB};
 
 // The bytes of A.
 pub fn part_a(map: &[u8]) -> &[u8]

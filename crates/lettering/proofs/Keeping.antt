@@ -27,12 +27,14 @@ use Rattle.words.specs.declared.family.Family.{Family}
 use Rattle.words.specs.declared.family.Family.the-variants.{Round as round, Square as square}
 use Rattle.words.specs.Word.{sameFamily, Word}
 use Rattle.bits.specs.Strings.{bytesFor}
+use Rattle.bits.specs.Letters.{familyBit, closingBit}
 use Rattle.bits.specs.Writes.{setBit}
 use Rattle.bits.proofs.Stores.{set-bit-length}
+use Rattle.bits.proofs.Letters.{family-itself, family-is}
 use Rattle.drawing.specs.Drawing.{mostEnds}
-use Rattle.format.specs.Bytes.{longest, header, headerOf, bitsB, startB, mapLength, familyBit, closingBit, stringA, stringB}
+use Rattle.format.specs.Bytes.{longest, header, headerOf, bitsB, startB, mapLength, stringA, stringB}
 use Rattle.format.specs.Fits.{Fits}
-use Rattle.format.proofs.Strings.{inFamily, families-all, family-itself, family-is, string-a-length, string-a-at, string-b-length, string-b-at}
+use Rattle.format.proofs.Strings.{inFamily, families-all, string-a-length, string-a-at, string-b-length, string-b-at}
 use Rattle.format.proofs.Parts.{Lengths}
 use Rattle.lettering.specs.Lettering.{begun, withLetter, letters, Counted, Holds, Lettered}
 use Rattle.lettering.proofs.Holding.{laid-length, laid-after, blank-holds, bits-room, set-elsewhere, holds-more, holds-beside}

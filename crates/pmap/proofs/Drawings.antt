@@ -32,10 +32,11 @@ use Rattle.words.specs.declared.family.Family.the-variants.{Round as round, Squ
 use Rattle.words.specs.Word.{sameFamily, Word}
 use Rattle.format.specs.Packs.{Packs, smallerIn, largerIn, PackReturns}
 use Rattle.bits.specs.Strings.{bytesFor}
+use Rattle.bits.specs.Letters.{familyBit, closingBit}
 use Rattle.drawing.specs.Drawing.{Drawing, borders, ends}
 use Rattle.drawing.specs.Checks.{LengthsFit, lengthsFit, smallerFirst, FirstCrossing}
 use Rattle.drawing.proofs.Checks.{lengths-decides}
-use Rattle.format.specs.Bytes.{sizeIn, wordIn, familyBit, closingBit, stringA, stringB, bytesOf, mapBytes}
+use Rattle.format.specs.Bytes.{sizeIn, wordIn, stringA, stringB, bytesOf, mapBytes}
 use Rattle.format.specs.Open.{openChecks, openRefusal}
 use Rattle.format.specs.Pack.{wordOf, packedBytes, packChecks, packRefusal, packOf, positionIn, drawingOf, unpackOf}
 use Rattle.format.proofs.Bits.{bytes-of-length}

@@ -34,13 +34,13 @@ use Rattle.words.proofs.Mate.{mate-below, mate-involutive}
 use Rattle.words.proofs.Step.{next-plain, next-last, step-permutes}
 use Rattle.words.proofs.Numbers.{openings}
 use Rattle.words.proofs.Points.{cycles-step}
+use Rattle.bits.specs.Letters.{familyBit}
+use Rattle.bits.proofs.Letters.{family-same}
 use Rattle.drawing.specs.Drawing.{borders, ends, border, turn, isMarked, over, walk, around, cells, endAt, positionOf}
 use Rattle.drawing.proofs.Ends.{over-yes, over-no}
 use Rattle.tours.specs.Tour.{MeetsAll}
-use Rattle.format.specs.Bytes.{familyBit}
 use Rattle.format.specs.Calls.{familyOfKind}
 use Rattle.format.specs.Pack.{opensBefore, endIn, positionIn, drawingOf}
-use Rattle.format.proofs.Strings.{family-same}
 use Rattle.format.specs.Fits.{Fits}
 use Rattle.words.proofs.Mates.{mate-own, mate-else, by-family, mate-in-below, mate-in-family, mate-in-closing, mate-in-closes, mate-crossing}
 use Rattle.roundtrip.proofs.Openings.{openings-all, openings-cell}

@@ -25,11 +25,11 @@ use Rattle.words.specs.declared.family.Family.{Family}
 use Rattle.words.specs.declared.family.Family.the-variants.{Round as round, Square as square}
 use Rattle.words.specs.Word.{sameFamily, Word, seen, mateIn}
 use Rattle.words.proofs.Numbers.{openings}
+use Rattle.bits.specs.Letters.{familyBit}
 use Rattle.drawing.specs.Drawing.{Drawing, borders, ends, border, turn, isMarked, over, walk, endAt, positionOf}
 use Rattle.drawing.specs.Checks.{LengthsFit, InRange, Distinct, Linked, here, turned, across, Joined, FewMarks, markCount, Crossing, PassesSeven}
 use Rattle.drawing.proofs.Ends.{over-yes, over-no, walk-permutes}
 use Rattle.tours.specs.Tour.{MeetsAll}
-use Rattle.format.specs.Bytes.{familyBit}
 use Rattle.format.specs.Pack.{endIn, positionIn, drawingOf}
 use Rattle.format.specs.Fits.{Fits}
 use Rattle.words.proofs.Mates.{mate-in-nested}

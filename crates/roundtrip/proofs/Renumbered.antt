@@ -18,12 +18,12 @@ use Rattle.words.specs.Brackets.{Balanced, step}
 use Rattle.words.specs.declared.family.Family.{Family}
 use Rattle.words.specs.declared.family.Family.the-variants.{Round as round}
 use Rattle.words.specs.Word.{seen, mateIn}
+use Rattle.bits.specs.Letters.{familyBit}
+use Rattle.bits.proofs.Letters.{bit-back}
 use Rattle.drawing.specs.Drawing.{Drawing, borders, ends, border, other, turn, isMarked, endAt, positionOf}
 use Rattle.drawing.specs.Renumbered.{newBorder, newEnd, oldEnd, renumbered}
 use Rattle.drawing.proofs.Ends.{across, border-below}
-use Rattle.format.specs.Bytes.{familyBit}
 use Rattle.format.specs.Pack.{opensBefore, endIn, positionIn, drawingOf, wordOf}
-use Rattle.format.proofs.Strings.{bit-back}
 use Rattle.count.proofs.Lists.{table-same}
 use Rattle.roundtrip.specs.Faithful.{Faithful}
 use Rattle.roundtrip.proofs.Ends.{end-in-min, end-in-injective, position-in-below, position-in-end}

@@ -18,11 +18,11 @@ use Rattle.words.specs.Brackets.{Balanced}
 use Rattle.words.specs.declared.family.Family.{Family}
 use Rattle.words.specs.declared.family.Family.the-variants.{Round as round, Square as square}
 use Rattle.words.specs.Word.{Word, seen, mateIn}
+use Rattle.bits.proofs.Letters.{family-same, family-back}
 use Rattle.drawing.specs.Drawing.{border, isMarked, endAt, isSecond}
 use Rattle.drawing.proofs.Ends.{other-border}
 use Rattle.format.specs.Bytes.{mapBytes}
 use Rattle.format.specs.Pack.{endIn, drawingOf, wordOf, packedBytes}
-use Rattle.format.proofs.Strings.{family-same, family-back}
 use Rattle.format.proofs.Encode.{map-bytes-same}
 use Rattle.format.specs.Fits.{Fits}
 use Rattle.words.proofs.Mates.{mate-in-below, mate-in-closes, mate-in-earlier}

@@ -20,8 +20,9 @@ use Rattle.words.specs.Brackets.{closes, inner, number, first, size}
 use Rattle.words.specs.declared.family.Family.{Family}
 use Rattle.words.specs.Word.{seen}
 use Rattle.bits.specs.Strings.{bit, isBit, rank}
+use Rattle.bits.specs.Letters.{familyBit}
 use Rattle.bits.proofs.Laws.{rank-here, rank-other, rank-le}
-use Rattle.format.specs.Bytes.{sizeIn, bitsA, partA, partB, familyBit, wordIn}
+use Rattle.format.specs.Bytes.{sizeIn, bitsA, partA, partB, wordIn}
 use Rattle.format.specs.Calls.{familyOfKind, placesIn}
 use Rattle.opening.specs.Cells.{kindOf, numberOfCell}
 use Rattle.opening.specs.declared.cells.Cell.{Cell}

@@ -14,7 +14,8 @@ use Rattle.words.specs.declared.family.Family.{Family}
 use Rattle.words.specs.Word.{seen, mateIn}
 use Rattle.words.proofs.Mate.{mate-below}
 use Rattle.bits.specs.Strings.{bit}
-use Rattle.format.specs.Bytes.{sizeIn, bitsA, partA, familyBit, wordIn}
+use Rattle.bits.specs.Letters.{familyBit}
+use Rattle.format.specs.Bytes.{sizeIn, bitsA, partA, wordIn}
 use Rattle.walking.specs.Positions.{Position}
 use Rattle.walking.proofs.Decoded.{places-most, nested}
 use Rattle.walking.proofs.Walks.{mate-crossed}

@@ -26,9 +26,10 @@ use Rattle.words.specs.Word.{seen}
 use Rattle.words.proofs.Stack.{inner-le, inner-neither}
 use Rattle.words.proofs.Numbers.{openings, inner-number, number-zero}
 use Rattle.bits.specs.Strings.{bit, rank}
+use Rattle.bits.specs.Letters.{familyBit}
 use Rattle.bits.proofs.Laws.{bit-below-2}
 use Rattle.drawing.specs.Drawing.{mostEnds}
-use Rattle.format.specs.Bytes.{sizeIn, areasOf, bitsA, partA, partB, familyBit, wordIn}
+use Rattle.format.specs.Bytes.{sizeIn, areasOf, bitsA, partA, partB, wordIn}
 use Rattle.format.specs.Open.{openRefusal}
 use Rattle.format.proofs.Passes.{opens-passes}
 use Rattle.format.proofs.Openings.{cells-numbers}

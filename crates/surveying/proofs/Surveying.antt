@@ -21,8 +21,9 @@ use Rattle.words.specs.declared.family.Family.the-variants.{Round as round, Squ
 use Rattle.words.specs.Word.{seen}
 use Rattle.lending.proofs.Laying.{Filled, filled-start, filled-more, filled-end}
 use Rattle.bits.specs.Strings.{bit}
+use Rattle.bits.specs.Letters.{familyBit}
 use Rattle.bits.proofs.Laws.{bit-below-2}
-use Rattle.format.specs.Bytes.{sizeIn, bitsA, startB, partA, familyBit, wordIn}
+use Rattle.format.specs.Bytes.{sizeIn, bitsA, startB, partA, wordIn}
 use Rattle.format.specs.Open.{openRefusal}
 use Rattle.walking.proofs.Decoded.{places-most, nested}
 use Rattle.surveying.specs.Passing.{Lists, Begun, Passable, Passes}

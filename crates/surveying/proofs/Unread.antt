@@ -15,8 +15,9 @@ use lib.Seq.{getD-set-same, getD-set-other, getD-take, getD-drop}
 use Rattle.words.specs.declared.family.Family.{Family}
 use Rattle.words.specs.declared.family.Family.the-variants.{Round as round, Square as square}
 use Rattle.bits.specs.Strings.{bit, rank, bytesFor}
+use Rattle.bits.specs.Letters.{familyBit}
 use Rattle.bits.proofs.Laws.{rank-zero, rank-here, rank-other, rank-le, rank-mono}
-use Rattle.format.specs.Bytes.{sizeIn, bitsA, bitsB, startB, partA, partB, familyBit}
+use Rattle.format.specs.Bytes.{sizeIn, bitsA, bitsB, startB, partA, partB}
 use Rattle.format.specs.Open.{openRefusal}
 use Rattle.format.proofs.Passes.{opens-passes}
 use Rattle.format.proofs.Decode.{rank-all}

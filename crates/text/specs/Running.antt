@@ -14,7 +14,8 @@ use Rattle.count.specs.Below.{pick}
 use Rattle.words.specs.declared.family.Family.the-variants.{Round as round, Square as square}
 use Rattle.words.specs.Word.{Letter}
 use Rattle.bits.specs.Strings.{bit, rank}
-use Rattle.format.specs.Bytes.{partA, partB, familyOf, wordIn}
+use Rattle.bits.specs.Letters.{familyOf}
+use Rattle.format.specs.Bytes.{partA, partB, wordIn}
 
 -- 02: "got from the count of the line before (0 at first) and this place's bit alone"
 unfoldable pub counts : List ℕ → ℕ → ℕ

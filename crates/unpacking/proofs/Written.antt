@@ -24,12 +24,13 @@ use Rattle.words.specs.declared.family.Family.the-variants.{Round as round, Squ
 use Rattle.words.specs.Word.{sameFamily, seen, mateIn}
 use Rattle.words.proofs.Mates.{mate-own, mate-else, mate-in-below}
 use Rattle.bits.specs.Strings.{bit}
+use Rattle.bits.specs.Letters.{familyBit}
 use Rattle.bits.proofs.Laws.{bit-below-2}
+use Rattle.bits.proofs.Letters.{bit-back}
 use Rattle.drawing.specs.Drawing.{border, isMarked}
-use Rattle.format.specs.Bytes.{sizeIn, bitsA, partA, familyBit, wordIn}
+use Rattle.format.specs.Bytes.{sizeIn, bitsA, partA, wordIn}
 use Rattle.format.specs.Open.{openRefusal}
 use Rattle.format.specs.Pack.{endIn, positionIn, drawingOf}
-use Rattle.format.proofs.Strings.{bit-back}
 use Rattle.roundtrip.proofs.Ends.{end-in-below, position-in, position-in-below, position-in-end}
 use Rattle.roundtrip.proofs.Drawing.{drawing-marked}
 use Rattle.surveying.specs.Surveyed.{Mates}

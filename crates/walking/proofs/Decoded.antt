@@ -24,8 +24,9 @@ use Rattle.words.proofs.Numbers.{openings, number-is, first-opening}
 use Rattle.words.proofs.Thin.{Thins, thin-mate}
 use Rattle.words.proofs.Openings.{thin-number, thin-opening}
 use Rattle.bits.specs.Strings.{bit, isBit, rank, select, brackets}
+use Rattle.bits.specs.Letters.{familyBit}
 use Rattle.bits.proofs.Laws.{bracket-0, bracket-not-0, rank-openings}
-use Rattle.format.specs.Bytes.{sizeIn, bitsA, bitsB, partA, partB, familyBit, wordIn}
+use Rattle.format.specs.Bytes.{sizeIn, bitsA, bitsB, partA, partB, wordIn}
 use Rattle.format.specs.Open.{openRefusal}
 use Rattle.format.proofs.Passes.{opens-passes}
 use Rattle.format.proofs.Decode.{word-thins, rank-all, passes-nested}

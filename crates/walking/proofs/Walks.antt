@@ -29,7 +29,8 @@ use Rattle.words.proofs.Mate.{mate-below, mate-neither}
 use Rattle.words.proofs.Step.{next-plain, next-last}
 use Rattle.words.proofs.Numbers.{first-zero, first-inner, number-reached, inner-number}
 use Rattle.bits.specs.Strings.{bit, rank, select, brackets}
-use Rattle.format.specs.Bytes.{sizeIn, bitsA, bitsB, partA, partB, familyBit, wordIn}
+use Rattle.bits.specs.Letters.{familyBit}
+use Rattle.format.specs.Bytes.{sizeIn, bitsA, bitsB, partA, partB, wordIn}
 use Rattle.format.specs.Open.{openRefusal}
 use Rattle.format.specs.Calls.{familyOfKind}
 use Rattle.opening.specs.Cells.{kindOf, numberOfCell}

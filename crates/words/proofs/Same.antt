@@ -4,6 +4,8 @@
 -- inner-same, closer-same, mate-same, step-same, back-same == words that agree below n have the same partners and steps,
 -- openings-same, number-same, isFirst-same, isLast-same, first-same, size-same == and numbers, first and last positions and sizes,
 -- balanced-same    == and both are balanced or none is
+-- word n f         == a word of n letters
+-- seen-same, mate-in-same == of words of both families: each family sees the same, and crossings are the same
 -- Assumes nothing.
 use mathlib.Core.Path.{_≡_, refl, sym, ap, _∙_}
 use mathlib.Core.Bool.{_&&_}
@@ -13,6 +15,8 @@ use lib.Dec.{eqb}
 use Rattle.count.proofs.Below.{find-same, count-same}
 use Rattle.words.specs.Brackets.{Bracket, isOpens, isCloses, stack, top, inner, Balanced, closer, mate}
 use Rattle.words.specs.Brackets.{next, previous, step, back, number, isFirst, isLast, first, size}
+use Rattle.words.specs.declared.family.Family.{Family}
+use Rattle.words.specs.Word.{Letter, Word, view, seen, mateIn}
 use Rattle.words.proofs.Letters.{by-bracket}
 use Rattle.words.proofs.Stack.{inner-le}
 use Rattle.words.proofs.Mate.{mate-of-opens, mate-of-closes, mate-neither}
@@ -79,3 +83,17 @@ module _ (b c : ℕ → Bracket) (n : ℕ) (same : (x : ℕ) → x < n → b x �
   pub size-same : (k : ℕ) → size b n k ≡ size c n k
   unfolding size
   size-same k = count-same (λ p. eqb (number b p) k) (λ p. eqb (number c p) k) n (λ p l. ap (λ x. eqb x k) (number-same p (omega arith)))
+
+abbrev pub word : ℕ → (ℕ → Letter) → Word
+word n f = record { size = n; letter = f }
+
+module _ (n : ℕ) (f g : ℕ → Letter) (same : (p : ℕ) → p < n → f p ≡ g p) where
+  pub seen-same : (K : Family) (p : ℕ) → p < n → seen K (word n f) p ≡ seen K (word n g) p
+  unfolding seen
+  seen-same K p l = ap (view K) (same p l)
+
+  pub mate-in-same : (p : ℕ) → p < n → mateIn (word n f) p ≡ mateIn (word n g) p
+  unfolding mateIn
+  mate-in-same p l =
+      mate-same (seen (f p .family) (word n f)) (seen (f p .family) (word n g)) n (seen-same (f p .family)) p l
+      ∙ ap (λ x. mate (seen (x .family) (word n g)) n p) (same p l)
