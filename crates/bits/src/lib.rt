@@ -16,7 +16,8 @@
 //
 // The strings are A, B and B* of document 01, "Tour and packed map". The definitions that the
 // contracts cite are in specs/; the laws that a caller may use are in proofs/Laws.antt and
-// proofs/Stores.antt, and no others. Read as brackets, the strings are matched by the crate `matching`.
+// proofs/Stores.antt, and no others, and in proofs/Letters.antt of the word that three strings spell. Read as brackets,
+// the strings are matched by the crates `matching` and, all at once, `pairing`.
 mod blocks;
 mod numbers;
 mod read;

@@ -9,19 +9,16 @@
 -- opens-encode      == bytes that open are the bytes of the word in them, and it fits
 -- Assumes nothing.
 use mathlib.Core.Path.{_≡_, refl, sym, _∙_, ap, subst}
-use mathlib.Core.Bool.{true}
 use mathlib.Core.List.{List}
 use Prim.Native.Nat.{ℕ, _<_}
 use native.Mathlib.Omega.{arith}
 use lib.ListN.{length, getD}
 use lib.Dec.{eqb}
-use borrow.Author.Tests.{eq-eqb}
 use lib.Seq.{ext-getD}
-use Rattle.count.specs.Below.{pick, count, nth, table}
-use Rattle.count.proofs.Logic.{pick-yes, pick-no}
+use Rattle.count.specs.Below.{count, nth, table}
 use Rattle.count.proofs.Below.{count-same, nth-below, nth-count, nth-has}
 use Rattle.count.proofs.Lists.{table-same, table-length, table-getD}
-use Rattle.words.specs.Brackets.{opens, closes, neither, Balanced}
+use Rattle.words.specs.Brackets.{Balanced}
 use Rattle.words.specs.declared.family.Family.{Family}
 use Rattle.words.specs.declared.family.Family.the-variants.{Round as round, Square as square}
 use Rattle.words.specs.Word.{seen}

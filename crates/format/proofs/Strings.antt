@@ -8,16 +8,13 @@
 -- Assumes nothing.
 use mathlib.Core.Path.{_≡_, refl, sym, _∙_, ap}
 use mathlib.Core.Bool.{Bool, true, false, not}
-use Prim.Native.Nat.{ℕ, zero, suc, _+_, _<_}
+use Prim.Native.Nat.{ℕ, _+_, _<_}
 use native.Mathlib.Omega.{arith}
 use lib.ListN.{length, getD}
 use lib.Seq.{ext-getD}
-use lib.Dec.{eqb}
-use Rattle.count.specs.Below.{pick, count, nth, table, gather}
-use Rattle.count.proofs.Logic.{true-not-false}
+use Rattle.count.specs.Below.{count, nth, table, gather}
 use Rattle.count.proofs.Below.{count-same, count-not, count-before, nth-below, nth-same, nth-of-count}
 use Rattle.count.proofs.Lists.{table-same, gather-same, table-length, table-getD, gather-length, gather-getD}
-use Rattle.words.specs.Brackets.{opens, closes}
 use Rattle.words.specs.declared.family.Family.{Family}
 use Rattle.words.specs.declared.family.Family.the-variants.{Round as round, Square as square}
 use Rattle.words.specs.Word.{sameFamily, Word}

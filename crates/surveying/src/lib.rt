@@ -12,10 +12,10 @@
 // as the crate `walking` does, so that an empty list serves where few places are asked about. All ask that the bytes
 // open: whoever calls has checked.
 //
-// The pass reads A, B and B* once, forwards. The source is document 01, "Tour and packed map" and "Moves": the area of
-// a place is that of the innermost [ open just before it, its point that of the innermost (. specs/Surveyed.antt says
-// what the lists hold, by the definitions of the crate `words`, of the word that `format` finds in the bytes;
-// proofs/Laws.antt has the laws for those who count in the lists.
+// The pass is that of the crate `pairing`, which reads A, B and B* once, forwards, and knows no map. The source is document
+// 01, "Tour and packed map" and "Moves": the area of a place is that of the innermost [ open just before it, its point that of
+// the innermost (. specs/Surveyed.antt says what the lists hold, by the definitions of the crate `words`, of the word that
+// `format` finds in the bytes; proofs/Laws.antt has the laws for those who count in the lists.
 mod moves;
 mod pass;
 

@@ -2,8 +2,8 @@
 --
 -- height os a d   == of the stack that begins at a in os: 1 + the position that stands d entries above its bottom, and 0 for the bottom
 -- Stacked K w a p t r os ls == just before position p of w, the open brackets of family K stand in os, the innermost at t, each above the
---                    one that was innermost before it; ls has beside each the number of the point (area) that it opened, and 1 at the
---                    bottom; r many are reached
+--                    one that was innermost before it; ls has beside each the number that it opened, and 1 at the bottom; r many are
+--                    reached
 -- stacked-start   == before the first position
 -- stacked-number  == the label of the innermost is the number
 -- stacked-inner   == where one is open, the innermost stands at t

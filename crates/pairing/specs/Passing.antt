@@ -1,14 +1,14 @@
 -- Passing one bracket: what is asked, what is done. A family is told by the bit x that A has for it.
 --
 -- Lists           == what the pass knows and has written. The open brackets of each family stand in `opened` as a stack, the innermost
---                    last; beside each, `labels` has the number of the point (area) that it opened, and 1 at the stack's bottom. At the
---                    bit of a family, `top` has where its stack ends, `number` the label there, which is the number of the point (area),
---                    and `reached` how many there are so far. And the mates
--- bottom K z      == where the stack of a family begins, in maps with m and n of z: that of the round brackets after that of the square
---                    ones, which are fewer than the areas, and one entry that is never read
--- stackRoom       == so many entries do for both stacks of every map
+--                    last; beside each, `labels` has the number that it opened, and 1 at the stack's bottom. At the bit of a family,
+--                    `top` has where its stack ends, `number` the label there, which is the number of a position there, and `reached`
+--                    how many numbers there are so far. And the mates
+-- bottom K w      == where the stack of a family begins: that of the round brackets after that of the square ones, which may all be
+--                    open at once, and one entry that is never read
+-- stackRoom       == so many entries do for both stacks of every word
 -- Ones l          == l has 1 at both bits
--- Begun z l       == so the lists are before the first position, with room for every map
+-- Begun w l       == so the lists are before the first position, with room for every word
 -- above, partner  == the first entry beyond the stack of x; what stands at the entry that a bracket with the bit v ends up at, once p is
 --                    put beyond the stack: p itself at an opening, the innermost open bracket at a closing
 -- Passable        == the bracket at p can be passed
@@ -18,11 +18,10 @@ use mathlib.Core.Path.{_≡_}
 use mathlib.Core.List.{List}
 use Prim.Native.Nat.{ℕ, _+_, _-_, _<_, _≤_}
 use lib.ListN.{length, getD, set}
-use Rattle.answers.specs.Answer.{Size}
 use Rattle.words.specs.declared.family.Family.{Family}
 use Rattle.words.specs.declared.family.Family.the-variants.{Round as round, Square as square}
-use Rattle.drawing.specs.Drawing.{mostEnds}
-use Rattle.format.specs.Bytes.{areasOf}
+use Rattle.words.specs.Word.{Word}
+use Rattle.pairing.specs.Paired.{mostLetters, openedIn}
 
 pub record Lists : Type 0 where
   pub top : List ℕ
@@ -32,9 +31,9 @@ pub record Lists : Type 0 where
   pub labels : List ℕ
   pub mates : List ℕ
 
-abbrev pub bottom : Family → Size → ℕ
-bottom round z = areasOf z + 1
-bottom square z = 0
+abbrev pub bottom : Family → Word → ℕ
+bottom round w = openedIn square w + 2
+bottom square w = 0
 
 abbrev pub stackRoom : ℕ
 stackRoom = 2052
@@ -44,16 +43,16 @@ pub record Ones (l : List ℕ) : Type 0 where
   pub zero : getD l 0 0 ≡ 1
   pub one : getD l 1 0 ≡ 1
 
-pub record Begun (z : Size) (l : Lists) : Type 0 where
+pub record Begun (w : Word) (l : Lists) : Type 0 where
   pub top-long : 2 ≤ length (l .top)
-  pub top-square : getD (l .top) 0 0 ≡ bottom square z
-  pub top-round : getD (l .top) 1 0 ≡ bottom round z
+  pub top-square : getD (l .top) 0 0 ≡ bottom square w
+  pub top-round : getD (l .top) 1 0 ≡ bottom round w
   pub number : Ones (l .number)
   pub reached : Ones (l .reached)
   pub opened-long : stackRoom ≤ length (l .opened)
   pub labels-long : stackRoom ≤ length (l .labels)
   pub labels : (i : ℕ) → i < stackRoom → getD (l .labels) i 0 ≡ 1
-  pub mates-long : mostEnds ≤ length (l .mates)
+  pub mates-long : mostLetters ≤ length (l .mates)
 
 abbrev pub above : ℕ → Lists → ℕ
 above x l = getD (l .top) x 0 + 1
@@ -64,9 +63,9 @@ partner x v p l = getD (set (l .opened) (above x l) p) (above x l - v) 0
 pub record Passable (x v p : ℕ) (l : Lists) : Type 0 where
   pub bit : x < 2
   pub opening : v < 2
-  pub few : p < mostEnds
+  pub few : p < mostLetters
   pub here : p < length (l .mates)
-  pub more : getD (l .reached) x 0 ≤ mostEnds
+  pub more : getD (l .reached) x 0 ≤ mostLetters
   pub some : 1 ≤ getD (l .reached) x 0
   pub pending : v ≤ getD (l .top) x 0
   pub opened : above x l < length (l .opened)

@@ -1,15 +1,17 @@
--- Passing one bracket: what the code does, and what that means in the word of a map.
+-- Passing one bracket: what the code does, and what that means in a word that is balanced in both families.
 --
 -- entry-room, label-room == the entries that `passed` reads are there, whatever was stored above the stack
 -- passes-is       == what it leaves
--- begun-is        == so the lists that `survey` makes are begun
--- Known s old p l == just before position p all lists hold what belongs there
+-- begun-is        == so the lists that `pair` makes are begun
+-- opened-few      == no more brackets open than there are letters
+-- Told w K p v    == the letter at p is of family K, and v is the bit that tells whether it closes
+-- Known w old p l == just before position p all lists hold what belongs there
 -- known-start     == before the first position
 -- known-passable  == what is asked to pass the bracket at p
 -- known-more      == it is passed
 -- Assumes nothing.
 use mathlib.Core.Path.{_≡_, refl, sym, ap, _∙_}
-use mathlib.Core.Logic.{_≢_, _⊎_, inl, inr}
+use mathlib.Core.Logic.{_≢_, inl, inr}
 use mathlib.Core.List.{List, [], _∷_}
 use Prim.Native.Nat.{ℕ, _+_, _-_, _<_, _≤_}
 use native.Mathlib.Omega.{arith}
@@ -18,25 +20,19 @@ use lib.Seq.{getD-set-same, getD-set-other}
 use Rattle.count.proofs.Logic.{same-or-not}
 use Rattle.count.proofs.Below.{count-mono}
 use Rattle.count.proofs.Counts.{count-le}
-use Rattle.answers.specs.Answer.{Kind, Size}
-use Rattle.words.specs.Brackets.{opens, closes, isOpens, inner, number}
+use Rattle.words.specs.Brackets.{Balanced, opens, closes, neither, isOpens, inner, number}
 use Rattle.words.specs.declared.family.Family.{Family}
 use Rattle.words.specs.declared.family.Family.the-variants.{Round as round, Square as square}
-use Rattle.words.specs.Word.{seen}
+use Rattle.words.specs.Word.{Word, seen}
 use Rattle.words.proofs.Stack.{inner-le, inner-neither}
 use Rattle.words.proofs.Numbers.{openings, inner-number, number-zero}
-use Rattle.bits.specs.Strings.{bit, rank}
+use Rattle.words.proofs.Halves.{openings-both}
 use Rattle.bits.specs.Letters.{familyBit}
-use Rattle.bits.proofs.Laws.{bit-below-2}
-use Rattle.drawing.specs.Drawing.{mostEnds}
-use Rattle.format.specs.Bytes.{sizeIn, areasOf, bitsA, partA, partB, wordIn}
-use Rattle.format.specs.Open.{openRefusal}
-use Rattle.format.proofs.Passes.{opens-passes}
-use Rattle.format.proofs.Openings.{cells-numbers}
-use Rattle.walking.proofs.Decoded.{seen-opens, seen-closes, seen-neither, nested, places-most}
-use Rattle.surveying.specs.Passing.{Lists, bottom, stackRoom, Ones, Begun, partner, Passable, Passes}
-use Rattle.surveying.proofs.Stacks.{Stacked, stacked-start, stacked-number, stacked-inner, stacked-aside, stacked-stays, stacked-passes}
-use Rattle.surveying.proofs.Pairs.{Paired, paired-start, paired-opens, paired-closes}
+use Rattle.bits.proofs.Letters.{family-small, family-told}
+use Rattle.pairing.specs.Paired.{mostLetters, openedIn, Pairable}
+use Rattle.pairing.specs.Passing.{Lists, bottom, stackRoom, Ones, Begun, partner, Passable, Passes}
+use Rattle.pairing.proofs.Stacks.{Stacked, stacked-start, stacked-number, stacked-inner, stacked-aside, stacked-stays, stacked-passes}
+use Rattle.pairing.proofs.Pairs.{Paired, paired-start, paired-opens, paired-closes}
 
 -- ---- the code
 module _ (x v p : ℕ) (ts ns rs os ls ms : List ℕ) where
@@ -60,8 +56,8 @@ module _ (x v p : ℕ) (ts ns rs os ls ms : List ℕ) where
       })
   passes-is q h = rw h (record { top = refl; number = refl; reached = refl; opened = refl; labels = refl; mates = refl })
 
-pub begun-is : (z : Size) (a : ℕ) (ms : List ℕ) → a ≡ bottom round z → mostEnds ≤ length ms
-    → Begun z
+pub begun-is : (w : Word) (a : ℕ) (ms : List ℕ) → a ≡ bottom round w → mostLetters ≤ length ms
+    → Begun w
     (record {
       top = 0 ∷ a ∷ [];
       number = replicate 2 1;
@@ -70,7 +66,7 @@ pub begun-is : (z : Size) (a : ℕ) (ms : List ℕ) → a ≡ bottom round z →
       labels = replicate 2052 1;
       mates = ms;
     })
-begun-is z a ms h long =
+begun-is w a ms h long =
     let ones : Ones (replicate 2 1) = record { long = omega arith; zero = refl; one = refl } in
     record {
       top-long = omega arith;
@@ -84,57 +80,46 @@ begun-is z a ms h long =
       mates-long = long;
     }
 
--- ---- in the word of a map
-pub record Known (s old : List ℕ) (p : ℕ) (l : Lists) : Type 0 where
+pub opened-few : (w : Word) (us : List ℕ) (K : Family) → Pairable w us → openedIn K w ≤ mostLetters
+opened-few w us K P = omega (arith, count-le (λ q. isOpens (seen K w q)) (w .size), P .few)
+
+-- ---- in the word
+pub record Told (w : Word) (K : Family) (p v : ℕ) : Type 0 where
+  pub bit : v < 2
+  pub opening : v ≡ 0 → seen K w p ≡ opens
+  pub closing : (v ≡ 0 → ⊥) → seen K w p ≡ closes
+  pub other : (X : Family) → familyBit X ≢ familyBit K → seen X w p ≡ neither
+
+pub record Known (w : Word) (old : List ℕ) (p : ℕ) (l : Lists) : Type 0 where
   pub top-long : 2 ≤ length (l .top)
   pub number-long : 2 ≤ length (l .number)
   pub reached-long : 2 ≤ length (l .reached)
   pub opened-long : stackRoom ≤ length (l .opened)
   pub labels-long : stackRoom ≤ length (l .labels)
-  pub stacked : (K : Family) → Stacked K (wordIn s) (bottom K (sizeIn s)) p (getD (l .top) (familyBit K) 0) (getD (l .reached) (familyBit K) 0) (l .opened) (l .labels)
-  pub numbered : (K : Family) → getD (l .number) (familyBit K) 0 ≡ number (seen K (wordIn s)) p
-  pub mates : Paired (wordIn s) old p (l .mates)
-
-pub bit-two : (K : Family) → familyBit K < 2
-bit-two round = omega arith
-bit-two square = omega arith
-
--- a family is K, or has another bit
-pub told : (K X : Family) → (X ≡ K) ⊎ (familyBit X ≢ familyBit K)
-told round round = inl refl
-told round square = inr (λ e. omega arith)
-told square round = inr (λ e. omega arith)
-told square square = inl refl
-
--- how many points (areas) a map has
-abbrev cells : Family → Size → ℕ
-cells round z = z .n
-cells square z = areasOf z
+  pub stacked : (K : Family) → Stacked K w (bottom K w) p (getD (l .top) (familyBit K) 0) (getD (l .reached) (familyBit K) 0) (l .opened) (l .labels)
+  pub numbered : (K : Family) → getD (l .number) (familyBit K) 0 ≡ number (seen K w) p
+  pub mates : Paired w old p (l .mates)
 
 -- two stacks, and an entry above each, do not meet
-apart : (K X : Family) (z : Size) (c d : ℕ) → familyBit X ≢ familyBit K → c < cells K z → d < cells X z → bottom K z + c + 1 ≢ bottom X z + d
-apart round round z c d n h g e = n refl
-apart round square z c d n h g e = omega arith
-apart square round z c d n h g e = omega arith
-apart square square z c d n h g e = n refl
+apart : (K X : Family) (w : Word) (c d : ℕ) → familyBit X ≢ familyBit K → c ≤ openedIn K w → d ≤ openedIn X w → bottom K w + c + 1 ≢ bottom X w + d
+apart round round w c d n h g e = n refl
+apart round square w c d n h g e = omega arith
+apart square round w c d n h g e = omega arith
+apart square square w c d n h g e = n refl
 
-module _ (s : List ℕ) (o : openRefusal s ≡ 0) where
-  few-open : (K : Family) (p : ℕ) → p ≤ bitsA (sizeIn s) → openings (seen K (wordIn s)) p < cells K (sizeIn s)
-  few-open round p l =
-      omega (arith, count-mono (λ q. isOpens (seen round (wordIn s) q)) p (bitsA (sizeIn s)) l, cells-numbers s Kind.point o)
-  few-open square p l =
-      omega (arith, count-mono (λ q. isOpens (seen square (wordIn s) q)) p (bitsA (sizeIn s)) l, cells-numbers s Kind.area o)
+module _ (w : Word) (most : w .size ≤ mostLetters) (nested : (K : Family) → Balanced (seen K w) (w .size)) where
+  few-open : (K : Family) (p : ℕ) → p ≤ w .size → openings (seen K w) p ≤ openedIn K w
+  few-open K p l = count-mono (λ q. isOpens (seen K w q)) p (w .size) l
 
-  in-room : (K : Family) (d : ℕ) → d < cells K (sizeIn s) → bottom K (sizeIn s) + d + 1 < stackRoom
-  in-room round d h = omega (arith, opens-passes s o .m-most, opens-passes s o .n-most)
-  in-room square d h = omega (arith, opens-passes s o .m-most, opens-passes s o .n-least)
+  in-room : (K : Family) (d : ℕ) → d ≤ openedIn K w → bottom K w + d + 1 < stackRoom
+  in-room round d h = omega (arith, openings-both w nested)
+  in-room square d h = omega (arith, openings-both w nested)
 
   ones : (K : Family) (l : List ℕ) → Ones l → getD l (familyBit K) 0 ≡ 1
   ones round l T = T .one
   ones square l T = T .zero
 
-  pub known-start : (l : Lists) → Begun (sizeIn s) l → Known s (l .mates) 0 l
-  unfolding wordIn
+  pub known-start : (l : Lists) → Begun w l → Known w (l .mates) 0 l
   known-start l B =
       record {
         top-long = B .top-long;
@@ -143,30 +128,24 @@ module _ (s : List ℕ) (o : openRefusal s ≡ 0) where
         opened-long = B .opened-long;
         labels-long = B .labels-long;
         stacked = λ K.
-            stacked-start K (wordIn s) (bottom K (sizeIn s)) (getD (l .top) (familyBit K) 0) (getD (l .reached) (familyBit K) 0) (l .opened) (l .labels) (top K) (ones K (l .reached) (B .reached))
-            (B .labels (bottom K (sizeIn s)) (let f = few-open K 0 (omega arith) in omega (arith, in-room K 0 (omega arith))));
-        numbered = λ K. ones K (l .number) (B .number) ∙ sym (number-zero (seen K (wordIn s)));
-        mates = paired-start (wordIn s) (l .mates) (omega (arith, places-most s o, B .mates-long));
+            stacked-start K w (bottom K w) (getD (l .top) (familyBit K) 0) (getD (l .reached) (familyBit K) 0) (l .opened) (l .labels) (top K) (ones K (l .reached) (B .reached))
+            (B .labels (bottom K w) (omega (arith, in-room K 0 (omega arith))));
+        numbered = λ K. ones K (l .number) (B .number) ∙ sym (number-zero (seen K w));
+        mates = paired-start w (l .mates) (omega (arith, B .mates-long));
       }
     where
-      top : (K : Family) → getD (l .top) (familyBit K) 0 ≡ bottom K (sizeIn s)
+      top : (K : Family) → getD (l .top) (familyBit K) 0 ≡ bottom K w
       top round = B .top-round
       top square = B .top-square
 
-  module _ (old : List ℕ) (p : ℕ) (l : Lists) (N : Known s old p l) where
-    deep-few : (K : Family) → p ≤ bitsA (sizeIn s) → N .stacked K .deep < cells K (sizeIn s)
+  module _ (old : List ℕ) (p : ℕ) (l : Lists) (N : Known w old p l) where
+    deep-few : (K : Family) → p ≤ w .size → N .stacked K .deep ≤ openedIn K w
     deep-few K i = omega (arith, N .stacked K .few, few-open K p i)
 
-    known-ends : (K : Family) → p ≤ bitsA (sizeIn s) → getD (l .top) (familyBit K) 0 + 1 < stackRoom
+    known-ends : (K : Family) → p ≤ w .size → getD (l .top) (familyBit K) 0 + 1 < stackRoom
     known-ends K i = omega (arith, N .stacked K .ends, in-room K (N .stacked K .deep) (deep-few K i))
 
-    module _ (i : p < bitsA (sizeIn s)) (K : Family) (own : bit (partA s) p ≡ familyBit K) (v : ℕ) (hv : v ≡ bit (partB K s) (rank (familyBit K) (partA s) p)) where
-      opens-here : v ≡ 0 → seen K (wordIn s) p ≡ opens
-      opens-here z = seen-opens s K p own (sym hv ∙ z)
-
-      closes-here : (v ≡ 0 → ⊥) → seen K (wordIn s) p ≡ closes
-      closes-here n = seen-closes s K p own (λ z. n (hv ∙ z))
-
+    module _ (i : p < w .size) (K : Family) (v : ℕ) (T : Told w K p v) where
       abbrev t : ℕ
       t = getD (l .top) (familyBit K) 0
 
@@ -174,11 +153,11 @@ module _ (s : List ℕ) (o : openRefusal s ≡ 0) where
       r = getD (l .reached) (familyBit K) 0
 
       one : v < 2
-      one = omega (arith, bit-below-2 (partB K s) (rank (familyBit K) (partA s) p))
+      one = T .bit
 
-      open-before : (v ≡ 0 → ⊥) → (bottom K (sizeIn s) < t) × (inner (seen K (wordIn s)) p ≡ getD (l .opened) t 0 + 1)
+      open-before : (v ≡ 0 → ⊥) → (bottom K w < t) × (inner (seen K w) p ≡ getD (l .opened) t 0 + 1)
       open-before n =
-          stacked-inner K (wordIn s) (bottom K (sizeIn s)) p t r (l .opened) (l .labels) (N .stacked K) (nested s K o .closing p i (closes-here n))
+          stacked-inner K w (bottom K w) p t r (l .opened) (l .labels) (N .stacked K) (nested K .closing p i (T .closing n))
 
       opened-room : t + 1 < length (l .opened)
       opened-room = omega (arith, known-ends K (omega arith), N .opened-long)
@@ -190,7 +169,7 @@ module _ (s : List ℕ) (o : openRefusal s ≡ 0) where
       partner-opens z =
           ap (λ k. getD (set (l .opened) (t + 1) p) k 0) (omega arith) ∙ getD-set-same (l .opened) (t + 1) p 0 opened-room
 
-      partner-closes : (v ≡ 0 → ⊥) → inner (seen K (wordIn s)) p ≡ partner (familyBit K) v p l + 1
+      partner-closes : (v ≡ 0 → ⊥) → inner (seen K w) p ≡ partner (familyBit K) v p l + 1
       partner-closes n =
           let w = one in
           open-before n .1
@@ -198,13 +177,11 @@ module _ (s : List ℕ) (o : openRefusal s ≡ 0) where
           (sym (ap (λ k. getD (set (l .opened) (t + 1) p) k 0) (omega arith) ∙ getD-set-other (l .opened) (t + 1) t p 0 (λ e. omega arith)))
 
       pub known-passable : Passable (familyBit K) v p l
-      unfolding wordIn
       known-passable =
-          let most = places-most s o in
-          let b = seen K (wordIn s) in
+          let b = seen K w in
           let here : p < length (l .mates) = omega (arith, N .mates .room, N .mates .long) in
           record {
-            bit = bit-two K;
+            bit = family-small K;
             opening = one;
             few = omega arith;
             here = here;
@@ -222,33 +199,33 @@ module _ (s : List ℕ) (o : openRefusal s ≡ 0) where
           }
 
       other-stays : (X : Family) → familyBit X ≢ familyBit K
-          → Stacked X (wordIn s) (bottom X (sizeIn s)) (p + 1) (getD (l .top) (familyBit X) 0) (getD (l .reached) (familyBit X) 0)
+          → Stacked X w (bottom X w) (p + 1) (getD (l .top) (familyBit X) 0) (getD (l .reached) (familyBit X) 0)
           (set (l .opened) (t + 1) p) (set (l .labels) (t + 1) (r + 1))
       other-stays X d =
-          let a : ℕ = bottom X (sizeIn s) in
+          let a : ℕ = bottom X w in
           let t₀ : ℕ = getD (l .top) (familyBit X) 0 in
           let r₀ : ℕ = getD (l .reached) (familyBit X) 0 in
-          stacked-stays X (wordIn s) a p t₀ r₀ (set (l .opened) (t + 1) p) (set (l .labels) (t + 1) (r + 1))
-          (stacked-aside X (wordIn s) a p t₀ r₀ (l .opened) (l .labels) (N .stacked X) (t + 1) p (r + 1)
+          stacked-stays X w a p t₀ r₀ (set (l .opened) (t + 1) p) (set (l .labels) (t + 1) (r + 1))
+          (stacked-aside X w a p t₀ r₀ (l .opened) (l .labels) (N .stacked X) (t + 1) p (r + 1)
           (λ c h e.
-          apart K X (sizeIn s) (N .stacked K .deep) c d (deep-few K (omega arith)) (omega (arith, deep-few X (omega arith))) (omega (arith, N .stacked K .ends))))
-          (seen-neither s X p (λ e. d (sym e ∙ own)))
+          apart K X w (N .stacked K .deep) c d (deep-few K (omega arith)) (omega (arith, deep-few X (omega arith))) (omega (arith, N .stacked K .ends))))
+          (T .other X d)
 
       -- in each family, where its stack ends after the bracket; and the number there, by the label or, in the other family, as it was
-      after : (X : Family) → Stacked X (wordIn s) (bottom X (sizeIn s)) (p + 1) (getD (set (l .top) (familyBit K) (t + 1 - v - v)) (familyBit X) 0)
+      after : (X : Family) → Stacked X w (bottom X w) (p + 1) (getD (set (l .top) (familyBit K) (t + 1 - v - v)) (familyBit X) 0)
           (getD (set (l .reached) (familyBit K) (r + 1 - v)) (familyBit X) 0) (set (l .opened) (t + 1) p) (set (l .labels) (t + 1) (r + 1))
       after X =
           let x : ℕ = familyBit K in
-          let b2 = bit-two K in
-          elim (told K X) [
+          let b2 = family-small K in
+          elim (family-told K X) [
             | inl e ↦
                 rw (
                   e,
                   getD-set-same (l .top) x (t + 1 - v - v) 0 (omega (arith, N .top-long)),
                   getD-set-same (l .reached) x (r + 1 - v) 0 (omega (arith, N .reached-long)),
                 )
-                (stacked-passes K (wordIn s) (bottom K (sizeIn s)) p t r (l .opened) (l .labels) (N .stacked K) v one opened-room labels-room opens-here closes-here
-                (nested s K o .closing p i))
+                (stacked-passes K w (bottom K w) p t r (l .opened) (l .labels) (N .stacked K) v one opened-room labels-room (T .opening) (T .closing)
+                (nested K .closing p i))
             | inr d ↦
                 rw (
                   getD-set-other (l .top) x (familyBit X) (t + 1 - v - v) 0 d,
@@ -258,31 +235,30 @@ module _ (s : List ℕ) (o : openRefusal s ≡ 0) where
           ]
 
       number-after : (X : Family)
-          → getD (set (l .number) (familyBit K) (getD (set (l .labels) (t + 1) (r + 1)) (t + 1 - v - v) 0)) (familyBit X) 0 ≡ number (seen X (wordIn s)) (p + 1)
+          → getD (set (l .number) (familyBit K) (getD (set (l .labels) (t + 1) (r + 1)) (t + 1 - v - v) 0)) (familyBit X) 0 ≡ number (seen X w) (p + 1)
       number-after X =
           let x : ℕ = familyBit K in
-          let b2 = bit-two K in
-          let b = seen X (wordIn s) in
+          let b2 = family-small K in
+          let b = seen X w in
           let ls : List ℕ = set (l .labels) (t + 1) (r + 1) in
           let y : ℕ = getD ls (t + 1 - v - v) 0 in
-          elim (told K X) [
+          elim (family-told K X) [
             | inl e ↦
                 ap (λ Y. getD (set (l .number) x y) (familyBit Y) 0) e ∙ getD-set-same (l .number) x y 0 (omega (arith, N .number-long))
                 ∙ ap (λ k. getD ls k 0)
                 (sym (ap (λ Y. getD (set (l .top) x (t + 1 - v - v)) (familyBit Y) 0) e ∙ getD-set-same (l .top) x (t + 1 - v - v) 0 (omega (arith, N .top-long))))
-                ∙ stacked-number X (wordIn s) (bottom X (sizeIn s)) (p + 1) (getD (set (l .top) x (t + 1 - v - v)) (familyBit X) 0)
+                ∙ stacked-number X w (bottom X w) (p + 1) (getD (set (l .top) x (t + 1 - v - v)) (familyBit X) 0)
                 (getD (set (l .reached) x (r + 1 - v)) (familyBit X) 0) (set (l .opened) (t + 1) p) ls (after X)
             | inr d ↦
                 getD-set-other (l .number) x (familyBit X) y 0 d ∙ N .numbered X
-                ∙ sym (inner-number b (p + 1) p (inner-neither b p (seen-neither s X p (λ e. d (sym e ∙ own)))))
+                ∙ sym (inner-number b (p + 1) p (inner-neither b p (T .other X d)))
           ]
 
-      pub known-more : (k : Lists) → Passes (familyBit K) v p l k → Known s old (p + 1) k
-      unfolding wordIn
-      known-more k T =
+      pub known-more : (k : Lists) → Passes (familyBit K) v p l k → Known w old (p + 1) k
+      known-more k P =
           let x : ℕ = familyBit K in
-          let b2 = bit-two K in
-          rw (T .top, T .number, T .reached, T .opened, T .labels, T .mates)
+          let b2 = family-small K in
+          rw (P .top, P .number, P .reached, P .opened, P .labels, P .mates)
           (record {
             top-long = omega (arith, length-set (l .top) x (t + 1 - v - v), N .top-long);
             number-long = omega (arith, length-set (l .number) x (getD (set (l .labels) (t + 1) (r + 1)) (t + 1 - v - v) 0), N .number-long);
@@ -294,8 +270,8 @@ module _ (s : List ℕ) (o : openRefusal s ≡ 0) where
             mates =
                 elim (same-or-not v 0) [
                   | inl z ↦
-                      rw (partner-opens z) (paired-opens (wordIn s) old (λ X. nested s X o) K p i (l .mates) (N .mates) (opens-here z))
+                      rw (partner-opens z) (paired-opens w old nested K p i (l .mates) (N .mates) (T .opening z))
                   | inr n ↦
-                      paired-closes (wordIn s) old (λ X. nested s X o) K p i (l .mates) (N .mates) (partner (familyBit K) v p l) (closes-here n) (partner-closes n)
+                      paired-closes w old nested K p i (l .mates) (N .mates) (partner (familyBit K) v p l) (T .closing n) (partner-closes n)
                 ];
           })

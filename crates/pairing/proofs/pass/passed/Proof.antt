@@ -1,8 +1,8 @@
--- `surveying::pass::passed` meets its contract. Assumes nothing.
-use Rattle.surveying.proofs.Passed.{entry-room, label-room, passes-is}
+-- `pairing::pass::passed` meets its contract. Assumes nothing.
+use Rattle.pairing.proofs.Passed.{entry-room, label-room, passes-is}
 use borrow.Author.Needs.{needs}
-use Rattle.surveying.proofs.pass.passed.Statement.{statement}
-use Rattle.surveying.proofs.pass.passed.Tie as tie
+use Rattle.pairing.proofs.pass.passed.Statement.{statement}
+use Rattle.pairing.proofs.pass.passed.Tie as tie
 
 mul-t : tie.Need-mul-t
 mul-t c = search needs
