@@ -3,7 +3,7 @@
 -- status-same, slot-same == equal answers have one status, and leave one slot
 -- borders-same, points-same, borders-fit, points-fit == the same of opening, which has two slots
 -- left-status == the place left by a session, or its refusal, has the session's status
--- call-all == what the proofs of the calls with one slot search
+-- fits-all == every answer of a call with one slot fits it
 -- Assumes nothing.
 use mathlib.Core.Path.{_≡_, refl, ap, _∙_}
 use mathlib.Core.List.{List}
@@ -23,7 +23,7 @@ module _ {A : Type 0} where
   pub slot-same : (x old : A) (a b : Answer A) → x ≡ leaves itself a old → a ≡ b → x ≡ leaves itself b old
   slot-same x old a b h e = h ∙ ap (λ y. leaves itself y old) e
 
-pub ruleset call-all = (status-same, slot-same, cross-fits, turn-fits, turn-back-fits, along-fits, point-fits, area-fits, first-fits, size-fits, neighbours-fit, joining-fits, needs)
+pub ruleset fits-all = (cross-fits, turn-fits, turn-back-fits, along-fits, point-fits, area-fits, first-fits, size-fits, neighbours-fit, joining-fits, needs)
 
 -- ---- opening
 module _ (a b : Answer Size) (e : a ≡ b) where
