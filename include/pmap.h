@@ -43,7 +43,7 @@
  * pmap_session to map_len and calls_len together, whatever the map is like. docs/SPEED.md has the times measured.
  *
  * Stack. No function recurses or allocates. pmap_session, pmap_neighbours, pmap_factor, pmap_joining and pmap_unpack hold
- * lists of the whole map on the stack: the deepest of them was measured at 43,376 bytes below the caller's frame, every other
+ * lists of the whole map on the stack: the deepest of them was measured at 43,384 bytes below the caller's frame, every other
  * call at up to 568 (libpmap.a of this toolchain, x86-64). A host that leaves PMAP_STACK bytes has half as much again as any
  * call takes. tests/host measures it again at each run.
  *
