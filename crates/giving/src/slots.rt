@@ -126,6 +126,6 @@ pub fn give_left(a: PlaceAnswer, place: &mut usize) -> u8
             *place = p.0;
             0
         }
-        PlaceAnswer::Declined(k) => k,
+        PlaceAnswer::Declined(status) => status,
     }
 }
