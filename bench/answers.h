@@ -28,6 +28,24 @@
         return status;                                                                             \
     }
 
+/* `to` is the position that a turn comes to, and `round` says of it, as q, whether the turn has gone round. */
+#define TURN_CALL(name, held, check, to, round)                                                    \
+    static uint8_t name(const uint8_t *map, size_t length, size_t place, uint16_t *out,            \
+                        uint8_t *gone_round)                                                       \
+    {                                                                                              \
+        held x;                                                                                    \
+        uint8_t status = check(map, length, &x);                                                   \
+        size_t p = place - 1, q;                                                                   \
+        if (status == 0 && (place == 0 || place > x.places))                                       \
+            status = 13;                                                                           \
+        if (status == 0) {                                                                         \
+            q = (to);                                                                              \
+            *out = (uint16_t)(q + 1);                                                              \
+            *gone_round = (round);                                                                 \
+        }                                                                                          \
+        return status;                                                                             \
+    }
+
 #define CELL_CALL(name, held, check, cells, refusal, answer)                                       \
     static uint8_t name(const uint8_t *map, size_t length, size_t k, uint16_t *out)                \
     {                                                                                              \

@@ -13,13 +13,14 @@ namespace {
 const struct calls proved_calls = {
     "proved",
     pmap_open,
-    { pmap_cross, pmap_turn, pmap_turn_back, pmap_along, pmap_point, pmap_area, pmap_point_first, pmap_degree, pmap_area_first, pmap_sides, pmap_neighbours },
+    { pmap_turn, pmap_turn_back },
+    { pmap_cross, pmap_along, pmap_point, pmap_area, pmap_point_first, pmap_degree, pmap_area_first, pmap_sides, pmap_neighbours },
     pmap_joining,
 };
 
 // A call by its index in call_names.
-const char *const call_names[NUMBER_CALLS + 2] = { "open", "cross", "turn", "turn back", "along", "point", "area", "point first", "degree", "area first", "sides", "neighbours", "joining" };
-const size_t DEGREE = 8, SIDES = 10, NEIGHBOURS = 11, JOINING = NUMBER_CALLS + 1;
+const char *const call_names[TURNS + NUMBER_CALLS + 2] = { "open", "cross", "turn", "turn back", "along", "point", "area", "point first", "degree", "area first", "sides", "neighbours", "joining" };
+const size_t TURN = 2, TURN_BACK = 3, DEGREE = 8, SIDES = 10, NEIGHBOURS = 11, JOINING = TURNS + NUMBER_CALLS + 1;
 
 std::vector<const struct calls *> compared;  // the proved calls first
 
@@ -27,18 +28,20 @@ struct asked {
     size_t u, v;
 };
 
-// One call: its status and both numbers, whole.
+// One call: its status and all numbers, whole.
 uint64_t ask(const struct calls &c, size_t call, const bytes &map, asked q)
 {
     uint16_t out = 0, more = 0;
-    uint8_t status;
+    uint8_t status, gone_round = 0;
     if (call == 0)
         status = c.open(map.data(), map.size(), &out, &more);
     else if (call == JOINING)
         status = c.joining(map.data(), map.size(), q.u, q.v, &out);
+    else if (call == TURN || call == TURN_BACK)
+        status = c.turn[call - TURN](map.data(), map.size(), q.u, &out, &gone_round);
     else
-        status = c.number[call - 1](map.data(), map.size(), q.u, &out);
-    return uint64_t(status) << 32 | uint64_t(more) << 16 | out;
+        status = c.number[call < TURN ? call - 1 : call - 1 - TURNS](map.data(), map.size(), q.u, &out);
+    return uint64_t(gone_round) << 40 | uint64_t(status) << 32 | uint64_t(more) << 16 | out;
 }
 
 // How many numbers there are of the kind that the call takes.
@@ -266,7 +269,7 @@ int main()
             if (!calls_agree(map) || !sessions_agree(map) || !marks_agree(map) || !unpacking_agrees(map) || !schedules_agree(map) || !listings_agree(map) || !factors_agree(map))
                 return 1;
         }
-    std::printf("all agree on every answer: %d kinds of maps, 16 to 2,048 borders, %d calls, 300 questions each; sessions of 300 calls; finding marks; unpacking; schedules; listings; factors; refusals of each\n", WITH_RING, NUMBER_CALLS + 2);
+    std::printf("all agree on every answer: %d kinds of maps, 16 to 2,048 borders, %d calls, 300 questions each; sessions of 300 calls; finding marks; unpacking; schedules; listings; factors; refusals of each\n", WITH_RING, int(JOINING + 1));
     for (size_t m : { 16, 128, 2048 })
         compare_all(m);
     show_neighbours(2048);

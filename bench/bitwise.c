@@ -182,25 +182,16 @@ static size_t touching(const struct strings *x, size_t k)
     return found;
 }
 
-static size_t turn(const struct strings *x, size_t p)
+static size_t step_back(const struct strings *x, size_t p)
 {
-    size_t q = mate(x, 1, p);
-
-    return q < p || q + 1 == x->places ? 0 : q + 2;
-}
-
-static size_t turn_back(const struct strings *x, size_t p)
-{
-    size_t q = p == 0 ? p : mate(x, 1, p - 1);
-
-    return q < p ? q + 1 : 0;
+    return mate(x, 1, (p == 0 ? x->places : p) - 1);
 }
 
 OPEN_CALL(open, struct strings, refuse)
 
 PLACE_CALL(cross, struct strings, refuse, mate(&x, bit(x.a, p), p) + 1)
-PLACE_CALL(turn_call, struct strings, refuse, turn(&x, p))
-PLACE_CALL(turn_back_call, struct strings, refuse, turn_back(&x, p))
+TURN_CALL(turn, struct strings, refuse, step(&x, 1, p), q <= p)
+TURN_CALL(turn_back, struct strings, refuse, step_back(&x, p), p <= q)
 PLACE_CALL(along, struct strings, refuse, step(&x, 0, p) + 1)
 PLACE_CALL(point, struct strings, refuse, number(&x, 1, p))
 PLACE_CALL(area, struct strings, refuse, number(&x, 0, p))
@@ -286,5 +277,5 @@ uint8_t bitwise_factor(const uint8_t *map, size_t length, size_t area, const uin
 }
 
 const struct calls bitwise_calls = {
-    "bit by bit", open, { cross, turn_call, turn_back_call, along, point, area, point_first, degree, area_first, sides, neighbours }, joining
+    "bit by bit", open, { turn, turn_back }, { cross, along, point, area, point_first, degree, area_first, sides, neighbours }, joining
 };

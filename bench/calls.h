@@ -11,6 +11,7 @@ extern "C" {
 
 typedef uint8_t open_call(const uint8_t *map, size_t length, uint16_t *m, uint16_t *n);
 typedef uint8_t number_call(const uint8_t *map, size_t length, size_t number, uint16_t *out);
+typedef uint8_t turn_call(const uint8_t *map, size_t length, size_t place, uint16_t *out, uint8_t *gone_round);
 typedef uint8_t joining_call(const uint8_t *map, size_t length, size_t u, size_t v, uint16_t *out);
 typedef uint8_t session_call(const uint8_t *map, size_t length, size_t first, const uint8_t *calls, size_t calls_length, uint8_t *statuses, size_t statuses_length,
                              uint16_t *answers, size_t answers_length, size_t *place);
@@ -20,12 +21,13 @@ typedef uint8_t factor_call(const uint8_t *map, size_t length, size_t area, cons
                             double *out);
 typedef size_t text_call(const uint8_t *map, size_t length, uint8_t *out);
 
-enum { NUMBER_CALLS = 11 };
+enum { TURNS = 2, NUMBER_CALLS = 9 };
 
-/* number[] in this order: cross, turn, turn back, along, point, area; point first, degree; area first, sides, neighbours */
+/* turn[] in this order: turn, turn back; number[]: cross, along, point, area; point first, degree; area first, sides, neighbours */
 struct calls {
     const char *name;
     open_call *open;
+    turn_call *turn[TURNS];
     number_call *number[NUMBER_CALLS];
     joining_call *joining;
 };

@@ -89,21 +89,11 @@ static uint8_t build(const uint8_t *map, size_t length, struct arrays *x)
     return depth[0] == 0 && depth[1] == 0 ? 0 : 12;
 }
 
-static size_t turn(const struct arrays *x, size_t p)
+static size_t step_back(const struct arrays *x, size_t p)
 {
-    size_t q = x->round[p] ? x->mate[p] : p;
+    size_t q = (p == 0 ? x->places : p) - 1;
 
-    return q < p || q + 1 == x->places ? 0 : q + 2;
-}
-
-static size_t turn_back(const struct arrays *x, size_t p)
-{
-    size_t q;
-
-    if (p == 0)
-        return 0;
-    q = x->round[p - 1] ? x->mate[p - 1] : p - 1;
-    return q < p ? q + 1 : 0;
+    return x->round[q] ? x->mate[q] : q;
 }
 
 /* The other areas across a side of area k, once along its walk. */
@@ -125,8 +115,8 @@ static size_t touching(const struct arrays *x, size_t k)
 OPEN_CALL(open, struct arrays, build)
 
 PLACE_CALL(cross, struct arrays, build, x.mate[p] + 1)
-PLACE_CALL(turn_call, struct arrays, build, turn(&x, p))
-PLACE_CALL(turn_back_call, struct arrays, build, turn_back(&x, p))
+TURN_CALL(turn, struct arrays, build, x.step[1][p], q <= p)
+TURN_CALL(turn_back, struct arrays, build, step_back(&x, p), p <= q)
 PLACE_CALL(along, struct arrays, build, x.step[0][p] + 1)
 PLACE_CALL(point, struct arrays, build, x.cell[1][p])
 PLACE_CALL(area, struct arrays, build, x.cell[0][p])
@@ -161,16 +151,22 @@ static uint8_t joining(const uint8_t *map, size_t length, size_t u, size_t v, ui
     return 0;
 }
 
-/* A call of a session at position p, by its code. */
+/* A call of a session at position p, by its code; where a turn has gone round, with GONE_ROUND. */
+enum { GONE_ROUND = 0x8000 };
+
 static size_t answer(const struct arrays *x, uint8_t code, size_t p)
 {
+    size_t q;
+
     switch (code) {
     case 0:
         return x->mate[p] + 1u;
     case 1:
-        return turn(x, p);
+        q = x->step[1][p];
+        return (q + 1) | (q <= p ? GONE_ROUND : 0);
     case 2:
-        return turn_back(x, p);
+        q = step_back(x, p);
+        return (q + 1) | (p <= q ? GONE_ROUND : 0);
     case 3:
         return x->step[0][p] + 1u;
     case 4:
@@ -199,7 +195,7 @@ uint8_t halfedge_session(const uint8_t *map, size_t length, size_t first, const 
         statuses[i] = refused ? 13 : 0;
         answers[i] = (uint16_t)(refused ? 0 : answer(&x, calls[i], at - 1));
         if (!refused && calls[i] < 4)
-            at = answers[i];
+            at = answers[i] & ~GONE_ROUND;
     }
     *place = at;
     return 0;
@@ -280,5 +276,5 @@ size_t halfedge_listing(const uint8_t *map, size_t length, uint8_t *out)
 }
 
 const struct calls halfedge_calls = {
-    "half-edges", open, { cross, turn_call, turn_back_call, along, point, area, point_first, degree, area_first, sides, neighbours }, joining
+    "half-edges", open, { turn, turn_back }, { cross, along, point, area, point_first, degree, area_first, sides, neighbours }, joining
 };

@@ -9,9 +9,23 @@
 
 namespace {
 
-// The single calls, by the code that a session has for them; the codes below MOVES are moves.
-number_call *const single[] = { pmap_cross, pmap_turn, pmap_turn_back, pmap_along, pmap_point, pmap_area };
-const size_t CODES = 6, MOVES = 4;
+const size_t CODES = 6, MOVES = 4;  // the codes below MOVES are moves
+
+// A single call, by the code that a session has for it: its status, and its answer as a session has it, which is 0 if it is refused.
+uint8_t single(uint8_t code, const bytes &map, size_t place, uint16_t &answer)
+{
+    static number_call *const number[CODES] = { pmap_cross, nullptr, nullptr, pmap_along, pmap_point, pmap_area };
+    uint8_t status, gone_round = 0;
+    answer = 0;
+    if (code == PMAP_CALL_TURN)
+        status = pmap_turn(map.data(), map.size(), place, &answer, &gone_round);
+    else if (code == PMAP_CALL_TURN_BACK)
+        status = pmap_turn_back(map.data(), map.size(), place, &answer, &gone_round);
+    else
+        status = number[code](map.data(), map.size(), place, &answer);
+    answer |= gone_round ? PMAP_GONE_ROUND : 0;
+    return status;
+}
 
 struct session {
     size_t first;
@@ -37,11 +51,9 @@ struct outcome {
     {
         place = s.first;
         for (size_t i = 0; i < s.calls.size(); i++) {
-            uint16_t out = 0;
-            statuses[i] = single[s.calls[i]](map.data(), map.size(), place, &out);
-            answers[i] = out;
+            statuses[i] = single(s.calls[i], map, place, answers[i]);
             if (statuses[i] == 0 && s.calls[i] < MOVES)
-                place = out;
+                place = answers[i] & ~PMAP_GONE_ROUND;
         }
     }
 
@@ -59,28 +71,9 @@ session any_codes(size_t first, size_t count)
     return s;
 }
 
-// Codes at random, but where a move would leave the session without a place, the border is crossed instead.
-session going_on(const bytes &map, size_t first, size_t count)
-{
-    session s = any_codes(first, count);
-    size_t place = first;
-    for (uint8_t &code : s.calls) {
-        if (code >= MOVES)
-            continue;
-        uint16_t out = 0;
-        single[code](map.data(), map.size(), place, &out);
-        if (out == 0) {
-            code = 0;
-            pmap_cross(map.data(), map.size(), place, &out);
-        }
-        place = out;
-    }
-    return s;
-}
-
 session at_random(const bytes &map, size_t count)
 {
-    return going_on(map, 1 + below(2 * borders(map)), count);
+    return any_codes(1 + below(2 * borders(map)), count);
 }
 
 // Sessions of so many calls, one on each map. Those of one call take all codes in turn.
@@ -149,8 +142,8 @@ bool sessions_agree(const bytes &map)
     const size_t count = 300, places = 2 * borders(map);
     bool good = true;
     for (size_t first : { size_t(0), size_t(1), places, places + 1, SIZE_MAX, 1 + below(places) })
-        for (const session &s : { any_codes(first, count), going_on(map, first, count), going_on(map, first, 3), any_codes(first, 0) })
-            good = good && accepted_alike(map, s);
+        for (size_t calls : { count, size_t(3), size_t(0) })
+            good = good && accepted_alike(map, any_codes(first, calls));
 
     session s = at_random(map, count), wrong = s;
     wrong.calls[below(count)] = CODES;

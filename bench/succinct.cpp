@@ -137,16 +137,9 @@ size_t touching(const structures &x, int v, size_t k)
     return found;
 }
 
-size_t turn(const structures &x, size_t p)
+size_t step_back(const structures &x, size_t p)
 {
-    size_t q = mate(x, 1, p);
-    return q < p || q + 1 == x.places ? 0 : q + 2;
-}
-
-size_t turn_back(const structures &x, size_t p)
-{
-    size_t q = p == 0 ? p : mate(x, 1, p - 1);
-    return q < p ? q + 1 : 0;
+    return mate(x, 1, (p == 0 ? x.places : p) - 1);
 }
 
 template <typename F> uint8_t place_call(const uint8_t *map, size_t length, size_t place, uint16_t *out, F answer)
@@ -196,14 +189,22 @@ static uint8_t cross(const uint8_t *map, size_t length, size_t place, uint16_t *
     return place_call(map, length, place, out, [](const structures &x, size_t p) { return mate(x, x.of[1].at[p], p) + 1; });
 }
 
-static uint8_t turn_call(const uint8_t *map, size_t length, size_t place, uint16_t *out)
+static uint8_t turn(const uint8_t *map, size_t length, size_t place, uint16_t *out, uint8_t *gone_round)
 {
-    return place_call(map, length, place, out, turn);
+    return place_call(map, length, place, out, [=](const structures &x, size_t p) {
+        size_t q = step(x, 1, p);
+        *gone_round = q <= p;
+        return q + 1;
+    });
 }
 
-static uint8_t turn_back_call(const uint8_t *map, size_t length, size_t place, uint16_t *out)
+static uint8_t turn_back(const uint8_t *map, size_t length, size_t place, uint16_t *out, uint8_t *gone_round)
 {
-    return place_call(map, length, place, out, turn_back);
+    return place_call(map, length, place, out, [=](const structures &x, size_t p) {
+        size_t q = step_back(x, p);
+        *gone_round = p <= q;
+        return q + 1;
+    });
 }
 
 static uint8_t along(const uint8_t *map, size_t length, size_t place, uint16_t *out)
@@ -269,6 +270,6 @@ static uint8_t joining(const uint8_t *map, size_t length, size_t u, size_t v, ui
 }
 
 extern const struct calls succinct_calls = {
-    "sdsl", open_it, { cross, turn_call, turn_back_call, along, point, area, point_first, degree, area_first, sides, neighbours }, joining
+    "sdsl", open_it, { turn, turn_back }, { cross, along, point, area, point_first, degree, area_first, sides, neighbours }, joining
 };
 }

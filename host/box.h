@@ -1,5 +1,5 @@
 /*
- * box.h - what the boxes in this folder share: reading a card and an area number, walking round an area, and saying what is wrong.
+ * box.h - what the boxes in this folder share: reading a card and a number, sessions, walking round an area, and saying what is wrong.
  * It has all of it, so that a box is one file to compile.
  */
 #ifndef BOX_H
@@ -73,19 +73,33 @@ static inline void read_card(const char *path, struct card *card)
     fclose(file);
 }
 
-/* A decimal number that a size_t holds: nothing is cut, so area 65,537 is refused and not taken for area 1. */
-static inline size_t read_area(const char *text)
+/* The number of `what`, "an area" or "a point", in decimal: nothing is cut, so area 65,537 is refused and not taken for area 1. */
+static inline size_t read_number_of(const char *what, const char *text)
 {
     char *end;
-    unsigned long long area;
+    unsigned long long number;
 
     errno = 0;
-    area = strtoull(text, &end, 10);
-    if (text[0] < '0' || text[0] > '9' || *end != '\0' || errno != 0 || area > SIZE_MAX) {
-        fprintf(stderr, "%s: '%s' is not an area number\n", box_name, text);
+    number = strtoull(text, &end, 10);
+    if (text[0] < '0' || text[0] > '9' || *end != '\0' || errno != 0 || number > SIZE_MAX) {
+        fprintf(stderr, "%s: '%s' is not %s number\n", box_name, text, what);
         exit(2);
     }
-    return (size_t)area;
+    return (size_t)number;
+}
+
+/* What a box is asked by a card and the number of `what` alone; `usage` says so. */
+static inline size_t read_question(int argc, char **argv, const char *usage, const char *what, struct card *card)
+{
+    size_t number;
+
+    if (argc != 3) {
+        fprintf(stderr, "usage: %s\n", usage);
+        exit(2);
+    }
+    number = read_number_of(what, argv[2]);
+    read_card(argv[1], card);
+    return number;
 }
 
 /* A side of an area: its place, and the area that lies across. */
@@ -102,23 +116,33 @@ static const uint8_t of_side[OF_SIDE] = {
     [ACROSS] = PMAP_CALL_CROSS, [BEYOND] = PMAP_CALL_AREA, [BACK] = PMAP_CALL_CROSS, [ON] = PMAP_CALL_ALONG,
 };
 
+/* One session: the answer of each call. */
+static inline void run_session(const char *path, const struct card *card, size_t first, const uint8_t *calls, size_t count,
+                               uint16_t answers[MOST_CALLS])
+{
+    static uint8_t statuses[MOST_CALLS];
+    size_t left, i;
+
+    stop_if_refused(path, pmap_session(card->bytes, card->length, first, calls, count, statuses, MOST_CALLS, answers,
+                                       MOST_CALLS, &left));
+    for (i = 0; i < count; i++)
+        stop_if_refused(path, statuses[i]);
+}
+
 /* Walks once round the area in one session, from its first place; gives how many sides it has: none if the map has no borders. */
 static inline size_t walk_round(const char *path, const struct card *card, size_t area, struct side sides[MOST_SIDES])
 {
-    static uint8_t calls[MOST_CALLS], statuses[MOST_CALLS];
+    static uint8_t calls[MOST_CALLS];
     static uint16_t answers[MOST_CALLS];
     uint16_t first, of_area;
-    size_t place, left, count, i;
+    size_t place, count, i;
 
     stop_if_refused(path, pmap_area_first(card->bytes, card->length, area, &first));
     stop_if_refused(path, pmap_sides(card->bytes, card->length, area, &of_area));
     count = OF_SIDE * (size_t)of_area;
     for (i = 0; i < count; i++)
         calls[i] = of_side[i % OF_SIDE];
-    stop_if_refused(path, pmap_session(card->bytes, card->length, first, calls, count, statuses, MOST_CALLS, answers,
-                                       MOST_CALLS, &left));
-    for (i = 0; i < count; i++)
-        stop_if_refused(path, statuses[i]);
+    run_session(path, card, first, calls, count, answers);
     for (place = first, i = 0; i < of_area; i++) {
         sides[i].place = place;
         sides[i].across = answers[OF_SIDE * i + BEYOND];

@@ -19,13 +19,8 @@ int main(int argc, char **argv)
     uint16_t m, n, neighbours;
 
     box_name = "quote";
-    if (argc != 3) {
-        fprintf(stderr, "usage: quote CARD AREA\n");
-        return 2;
-    }
+    area = read_question(argc, argv, "quote CARD AREA", "an area", &card);
     path = argv[1];
-    area = read_area(argv[2]);
-    read_card(path, &card);
 
     stop_if_refused(path, pmap_open(card.bytes, card.length, &m, &n));
     stop_if_refused(path, pmap_neighbours(card.bytes, card.length, area, &neighbours));

@@ -165,7 +165,7 @@ int main(int argc, char **argv)
         fprintf(stderr, "usage: rate CARD TARIFF AREA\n");
         return 2;
     }
-    area = read_area(argv[3]);
+    area = read_number_of("an area", argv[3]);
     read_card(argv[1], &card);
     read_tariff(argv[2], &tariff);
 

@@ -30,10 +30,10 @@
  * Memory. `map` points to map_len readable bytes, with no alignment asked for; it may be NULL if map_len is 0. So it is
  * with every list: turning_len, marks_len, work_len, out_len, calls_len, statuses_len, answers_len, kinds_len and values_len
  * count entries, the list may be NULL if it has none, and lists of uint16_t and of double are aligned as such. The functions
- * only read what is const. Out slots are not NULL and are aligned as what they hold: uint16_t, but *place of pmap_session as
- * size_t and *out of pmap_factor as double. All memory stays the caller's: nothing is kept, freed or handed over. The lists
- * and the slots that are lent to one call must not overlap one another, and no other thread may write any of them during the
- * call, or read those that are not const.
+ * only read what is const. Out slots are not NULL and are aligned as what they hold: uint16_t, but *gone_round of the turns is
+ * a byte, *place of pmap_session a size_t and *out of pmap_factor a double. All memory stays the caller's: nothing is kept,
+ * freed or handed over. The lists and the slots that are lent to one call must not overlap one another, and no other thread
+ * may write any of them during the call, or read those that are not const.
  *
  * Doubles. Only pmap_factor has to do with them. A double is a binary64 of IEEE 754. The thread that calls must round to
  * nearest, ties to even, and must not trap, as every C program does unless it asks for something else (fenv.h); the flags of
@@ -44,7 +44,7 @@
  *
  * Stack. No function recurses or allocates. pmap_session, pmap_neighbours, pmap_factor, pmap_joining and pmap_unpack hold
  * lists of the whole map on the stack: the deepest of them was measured at 43,384 bytes below the caller's frame, every other
- * call at up to 568 (libpmap.a of this toolchain, x86-64). A host that leaves PMAP_STACK bytes has half as much again as any
+ * call at up to 544 (libpmap.a of this toolchain, x86-64). A host that leaves PMAP_STACK bytes has half as much again as any
  * call takes. tests/host measures it again at each run.
  *
  * Threads. Nothing is kept between calls, there is no global state, and no function calls back: calls may run in several
@@ -104,6 +104,9 @@ enum {
     PMAP_CALL_POINT = 4,
     PMAP_CALL_AREA = 5
 };
+
+/* In the answers of a session: the bit that says that a turn has gone round. The other bits are the place. */
+#define PMAP_GONE_ROUND 0x8000
 
 /* The length of the longest map, in bytes. A buffer of PMAP_LONGEST + 1 tells a card that is too long from one that isn't. */
 #define PMAP_LONGEST 1031
@@ -182,19 +185,22 @@ uint8_t pmap_open(const uint8_t *map, size_t map_len, uint16_t *m, uint16_t *n);
 uint8_t pmap_cross(const uint8_t *map, size_t map_len, size_t place, uint16_t *out);
 
 /*
- * A move: the next place counterclockwise about the point; 0 at the point's last place.
+ * A move: the next place counterclockwise about the point. At the point's last place it is the first again, with a sign that
+ * the turn has gone round: *gone_round is then 1, otherwise 0. As many turns as the point has places lead back, one of them
+ * with the sign; where it has one place, every turn answers that place with the sign.
  * Status: 0, 8, 20, 9, 10, 11, 12, 13.
  */
-uint8_t pmap_turn(const uint8_t *map, size_t map_len, size_t place, uint16_t *out);
+uint8_t pmap_turn(const uint8_t *map, size_t map_len, size_t place, uint16_t *out, uint8_t *gone_round);
 
 /*
- * A move: the place before this one about the point; 0 at the point's first place.
+ * A move: the place before this one about the point. At the point's first place it is the last, with the sign: *gone_round is
+ * then 1, otherwise 0. It undoes pmap_turn, which has the same sign.
  * Status: 0, 8, 20, 9, 10, 11, 12, 13.
  */
-uint8_t pmap_turn_back(const uint8_t *map, size_t map_len, size_t place, uint16_t *out);
+uint8_t pmap_turn_back(const uint8_t *map, size_t map_len, size_t place, uint16_t *out, uint8_t *gone_round);
 
 /*
- * A move: the next place on the walk along the borders of the area. The walk is closed: it is never 0.
+ * A move: the next place on the walk along the borders of the area. The walk is closed.
  * Status: 0, 8, 20, 9, 10, 11, 12, 13.
  */
 uint8_t pmap_along(const uint8_t *map, size_t map_len, size_t place, uint16_t *out);
@@ -277,12 +283,14 @@ uint8_t pmap_joining(const uint8_t *map, size_t map_len, size_t u, size_t v, uin
 /*
  * A session: a list of calls in one, each about the place that the calls before it have left. `calls` has a code for each
  * call. The place is `first` at the beginning, whatever number that is. A call answers what the single call would answer
- * of the place. If it is a move (cross, turn, turn back, along), its answer is the new place, also where it is 0; point
- * and area leave the place as it is.
+ * of the place. If it is a move (cross, turn, turn back, along), its answer is the new place; point and area leave the place
+ * as it is.
  *
- * Entry i of `statuses` is the status of call i, 0 or 13, and entry i of `answers` is its answer. A call that is refused
- * has the answer 0, and the place stays: after a 0 every call gets 13. The place left at the end goes to *place. The
- * first calls_len entries of the two lists are written, and nothing after them is touched.
+ * Entry i of `statuses` is the status of call i, 0 or 13, and entry i of `answers` is its answer. Where a turn or turn back
+ * has gone round, the entry has the bit PMAP_GONE_ROUND too; no other entry has it, and the new place is without it. A call
+ * that is refused has the answer 0, and the place stays. If `first` is a place of the map, no call is refused and the place
+ * left is one; if it is none, every call gets 13. The place left at the end goes to *place. The first calls_len entries of
+ * the two lists are written, and nothing after them is touched.
  *
  * The checks of the session itself run in the order 8, 20, 9 to 12, 2 (a list is shorter than the calls), 255 (a code is
  * over 5). With any of these refusals both lists and *place are left as they were.

@@ -91,17 +91,26 @@ int make_book(const struct drawing *d, struct book *b)
     return d->m == 0 || h == d->start;
 }
 
+int same_reply(struct reply r, struct reply other)
+{
+    return r.status == other.status && r.value == other.value && r.sign == other.sign;
+}
+
 static struct reply refused(uint8_t status)
 {
-    struct reply r = {status, 0};
+    struct reply r = {status, 0, 0};
+    return r;
+}
+
+static struct reply turned(size_t place, int gone_round)
+{
+    struct reply r = {0, place, (uint8_t)gone_round};
     return r;
 }
 
 static struct reply answer(size_t value)
 {
-    struct reply r = {0, 0};
-    r.value = value;
-    return r;
+    return turned(value, 0);
 }
 
 static int is_place(const struct book *b, size_t place)
@@ -125,23 +134,23 @@ struct reply book_cross(const struct book *b, size_t place)
     return answer(b->place_of[other(b->end_at[place])]);
 }
 
-/* "Turn answers the place of h's entry, or 0 if that is the lowest place about the point." */
+/* "Turn answers the place of h's entry"; where that is "the lowest place about the point" it has gone round: request 8/14. */
 struct reply book_turn(const struct book *b, size_t place)
 {
     size_t h, next;
     if (!is_place(b, place)) return refused(13);
     h = b->end_at[place];
     next = b->place_of[b->drawing->turning[h]];
-    return answer(next == b->point_first[b->point_of[h]] ? 0 : next);
+    return turned(next, next == b->point_first[b->point_of[h]]);
 }
 
-/* "the place of the end whose entry is h, or 0 if h's own place is the lowest about the point" */
+/* "the place of the end whose entry is h"; where "h's own place is the lowest about the point" it has gone round */
 struct reply book_turn_back(const struct book *b, size_t place)
 {
     size_t h;
     if (!is_place(b, place)) return refused(13);
     h = b->end_at[place];
-    return answer(place == b->point_first[b->point_of[h]] ? 0 : b->place_of[b->end_before[h]]);
+    return turned(b->place_of[b->end_before[h]], place == b->point_first[b->point_of[h]]);
 }
 
 struct reply book_along(const struct book *b, size_t place)
@@ -236,4 +245,9 @@ struct reply book_step(const struct book *b, uint8_t code, size_t *place)
     else r = book_along(b, *place);
     if (r.status == 0) *place = r.value;
     return r;
+}
+
+uint16_t session_entry(struct reply r)
+{
+    return (uint16_t)(r.value + (r.sign ? SIGN_BIT : 0));
 }

@@ -1,10 +1,12 @@
 /*
  * Document 01 once more, from the drawing's side: what is wrong with a drawing or with a card, the drawing that bytes unpack
  * to, and the drawing's book with its sessions; and of document 02 the crossing that request 2/14 fixes and the neighbours as
- * request 3/14 counts them, the count of areas that request 6/14 puts on a card, and what holds of the marks that request 7/14 finds.
- * Written from the documents alone, and the codes of calls from include/pmap.h, so that the library can be compared with it; slow and
- * plain on purpose, and where there is a choice not in the library's way: borders are followed by merging points, the crossing of 7 is
- * looked for among all pairs, the sides of an area among all ends, and the count that a card gets is that of the drawing's area walks.
+ * request 3/14 counts them, the count of areas that request 6/14 puts on a card, what holds of the marks that request 7/14 finds, and
+ * the turns of request 8/14.
+ * Written from the documents alone, and what stands for a call and for a sign in a session from include/pmap.h, so that the library can
+ * be compared with it; slow and plain on purpose, and where there is a choice not in the library's way: borders are followed by merging
+ * points, the crossing of 7 is looked for among all pairs, the sides of an area among all ends, the count that a card gets is that of
+ * the drawing's area walks, and a turn is found to have gone round by the first place of its point.
  */
 #ifndef REFERENCE_H
 #define REFERENCE_H
@@ -52,11 +54,15 @@ size_t tour_after(const struct drawing *d, size_t h);
 /* How many bytes so many bits take, from a fresh byte. */
 size_t bytes_of(size_t bits);
 
-/* What a call gives: status 0 and a value, or document 01's number. */
+/* What a call gives: status 0 and a value, with 1 for "a sign that it has gone round", else 0; or the number of a refusal. */
 struct reply {
     uint8_t status;
     size_t value;
+    uint8_t sign;
 };
+
+/* Whether two replies are the same. */
+int same_reply(struct reply r, struct reply other);
 
 /* The first of 3 to 7 that applies to a drawing whose lists have the right lengths; 0 where none does. */
 uint8_t drawing_refusal(const struct drawing *d);
@@ -153,5 +159,9 @@ uint8_t session_refusal(const struct asked *s);
 
 /* One call of a session, by its code: 0 to 5, cross, turn, turn back, along, point, area. The place becomes the one after it. */
 struct reply book_step(const struct book *b, uint8_t code, size_t *place);
+
+/* What a session's list of answers has for a reply: the value, 0 of a refused call, and the sign in bit 15. */
+enum { SIGN_BIT = 0x8000 };
+uint16_t session_entry(struct reply r);
 
 #endif

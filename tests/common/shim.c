@@ -66,6 +66,19 @@ static uint8_t give(struct reply r, uint16_t *out)
     return 0;
 }
 
+static uint8_t give_turn(struct reply r, uint16_t *out, uint8_t *gone_round)
+{
+    if (r.status == 0) {
+        if (FAULT == 321) r.value = session_entry(r);     /* the sign in the place too */
+        if (FAULT != 322 || r.sign) *gone_round = r.sign; /* does not write that there is none */
+        if (FAULT == 323 && r.sign) *gone_round = 0x80;   /* another number than 1 */
+        if (FAULT == 324) gone_round[1] = 0;              /* writes beside its cell */
+    } else if (FAULT == 325) {
+        *gone_round = 0; /* writes its cell on a refusal */
+    }
+    return give(r, out);
+}
+
 static size_t number(size_t k)
 {
     return FAULT == 4 ? k % 65536 : k; /* cuts numbers to 16 bits */
@@ -76,6 +89,14 @@ static size_t number(size_t k)
     {                                                                                               \
         uint8_t status = open_card(map, map_len);                                                   \
         return status != 0 ? status : give(changed_##name(book_##name(&book, number(k)), k), out);  \
+    }
+
+#define TURN(name)                                                                                                  \
+    uint8_t pmap_##name(const uint8_t *map, size_t map_len, size_t k, uint16_t *out, uint8_t *gone_round)           \
+    {                                                                                                               \
+        uint8_t status = open_card(map, map_len);                                                                   \
+        if (FAULT == 326) *gone_round = 0; /* writes before it has checked */                                       \
+        return status != 0 ? status : give_turn(changed_##name(book_##name(&book, number(k)), k), out, gone_round); \
     }
 
 static struct reply changed_cross(struct reply r, size_t k)
@@ -97,9 +118,15 @@ static struct reply changed_along(struct reply r, size_t k)
 static struct reply changed_turn(struct reply r, size_t k)
 {
     struct reply across = book_cross(&book, k);
-    if (FAULT == 7 && r.status == 0 && r.value == 0) r.value = book.point_first[1]; /* does not end at the last place */
+    if (FAULT == 7 && r.sign) r.value = 1;                                                          /* place 1 for the point's first */
     if (FAULT == 13 && r.status == 0 && across.value == 2 * drawing.m) r.value = 2 * drawing.m + 1; /* document 002's formula */
-    if (FAULT == 14 && r.status == 0 && across.value > k) r.value = k + 1; /* the next place, also at a ( */
+    if (FAULT == 14 && r.status == 0 && across.value > k) r.value = k + 1;                          /* the next place, also at a ( */
+    if (FAULT == 302 && r.sign) r.value = 0;                                                        /* 0 as before request 8/14 */
+    if (FAULT == 303) r.sign = 0;                                                                   /* no sign */
+    if (FAULT == 304 && r.value != 1) r.sign = 0;                                                   /* the sign about point 1 only */
+    if (FAULT == 305 && r.value == k) r.sign = 0;                                                   /* none where it stays */
+    if (FAULT == 306 && r.status == 0) r.sign = book_turn_back(&book, k).sign;                      /* the sign at the first place */
+    if (FAULT == 307 && r.status == 0) r.sign = 1;                                                  /* the sign at every place */
     return r;
 }
 
@@ -141,7 +168,18 @@ static struct reply changed_neighbours(struct reply r, size_t k)
     return r;
 }
 
-#define changed_turn_back(r, k) (r)
+static struct reply changed_turn_back(struct reply r, size_t k)
+{
+    if (FAULT == 311 && r.sign) r.value = 2 * drawing.m;                             /* place 2m for the point's last */
+    if (FAULT == 312 && r.sign) r.value = 0;                                         /* 0 as before request 8/14 */
+    if (FAULT == 313) r.sign = 0;                                                    /* no sign */
+    if (FAULT == 314 && k != 1) r.sign = 0;                                          /* the sign about point 1 only */
+    if (FAULT == 315 && r.value == k) r.sign = 0;                                    /* none where it stays */
+    if (FAULT == 316 && r.status == 0) r.sign = book_turn_back(&book, r.value).sign; /* the sign where it comes to the first place */
+    if (FAULT == 317 && r.sign) r.value = k;                                         /* stays at the first place */
+    return r;
+}
+
 #define changed_point(r, k) (r)
 #define changed_point_first(r, k) (r)
 #define changed_degree(r, k) (r)
@@ -149,8 +187,8 @@ static struct reply changed_neighbours(struct reply r, size_t k)
 #define changed_sides(r, k) (r)
 
 CALL(cross)
-CALL(turn)
-CALL(turn_back)
+TURN(turn)
+TURN(turn_back)
 CALL(along)
 CALL(point)
 CALL(area)
@@ -212,9 +250,15 @@ static struct reply take_step(uint8_t code, size_t i, size_t first, size_t *at)
     if (FAULT == 124 && code == 5) code = 4;        /* the point for the area */
     r = book_step(&book, code, at);
     if (FAULT == 125 && r.status == 0 && code == 4) *at = r.value; /* moves to the number of the point */
-    if (FAULT == 126 && r.status == 0 && *at == 0) *at = before;   /* stays where a move answers 0 */
+    if (FAULT == 126 && r.sign) *at = before;                      /* stays where a turn has gone round */
     if (FAULT == 127 && r.status != 0) *at = 0;                    /* goes to 0 where a call is refused */
     if (FAULT == 128 && r.status != 0) r.value = before;           /* the place for the answer of a refused call */
+    if (FAULT == 331 && r.sign) *at = session_entry(r);            /* hands the sign on with the place */
+    if (FAULT == 332 && r.sign) *at = 0;                           /* stops there, as before request 8/14 */
+    if (FAULT == 333) r.sign = 0;                                  /* no sign */
+    if (FAULT == 334 && code == 2) r.sign = 0;                     /* the sign of turns, and not of turns back */
+    if (FAULT == 335 && code == 3) r.sign = *at <= before;         /* the sign of a step along, too */
+    if (FAULT == 336 && i >= 4096) r.sign = 0;                     /* the sign of the first 4,096 calls only */
     return r;
 }
 
@@ -244,10 +288,12 @@ uint8_t pmap_session(const uint8_t *map, size_t map_len, size_t first, const uin
     for (i = 0; i < calls_len; i++) {
         struct reply r = take_step(calls[i], i, asked.first, &at);
         statuses[i] = r.status;
-        if (FAULT != 142 || r.status == 0) answers[i] = (uint16_t)r.value; /* leaves the answer of a refused call as it was */
+        if (FAULT != 142 || r.status == 0) answers[i] = session_entry(r);      /* leaves the answer of a refused call as it was */
+        if (FAULT == 146 && r.sign) answers[i] = (uint16_t)(r.value + 0x4000); /* the sign in another bit */
     }
-    if (FAULT == 143) at %= 65536;       /* the place in 16 bits */
-    if (FAULT == 144) at = asked.first;  /* the first number for the place */
-    if (FAULT != 145) *place = at;       /* does not give the place */
+    if (FAULT == 143) at %= 65536;                                                           /* the place in 16 bits */
+    if (FAULT == 144) at = asked.first;                                                      /* the first number for the place */
+    if (FAULT == 147 && calls_len > 0 && answers[calls_len - 1] >= SIGN_BIT) at += SIGN_BIT; /* the sign in the place left */
+    if (FAULT != 145) *place = at;                                                           /* does not give the place */
     return 0;
 }

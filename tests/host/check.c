@@ -20,19 +20,22 @@
 #include "neighbours.h"
 #include "pmap.h"
 #include "reference.h"
+#include "rounds.h"
 #include "sessions.h"
 #include "tally.h"
 #include "tariffs.h"
 
 _Static_assert(PMAP_LONGEST == LONGEST, "pmap.h and the documents differ about the longest map");
+_Static_assert(PMAP_GONE_ROUND == SIGN_BIT, "the sign is another bit of a session's answers");
 
 static int small;
 static struct drawing drawing, renumbered;
 
-/* Document 01's own numbers, without the reference. */
+/* Document 01's own numbers, without the reference; request 8/14: "the turns in cases (b) and (h) both answer 1 with the sign". */
 static void worked_examples(void)
 {
     static const size_t listing[6][4] = {{1, 5, 1, 1}, {2, 4, 2, 1}, {3, 6, 3, 1}, {4, 2, 3, 2}, {5, 1, 2, 2}, {6, 3, 1, 2}};
+    static const struct reply gone_round = {0, 1, 1}, on = {0, 16, 0};
     size_t i;
     for (i = 0; i < 6; i++) {
         compare_value("pmap_cross", pmap_cross, CARD(triangle), listing[i][0], 0, listing[i][1]);
@@ -41,14 +44,14 @@ static void worked_examples(void)
     }
     compare_value("pmap_sides", pmap_sides, CARD(empty), 1, 0, 0);
     compare_value("pmap_sides", pmap_sides, CARD(empty), 2, 15, 0);
-    compare_value("pmap_turn", pmap_turn, CARD(stub), 1, 0, 0);
+    compare_turn(PMAP_CALL_TURN, CARD(stub), 1, gone_round);
     compare_value("pmap_sides", pmap_sides, CARD(stub), 1, 0, 2);
     compare_value("pmap_area", pmap_area, CARD(loop), 1, 0, 1);
     compare_value("pmap_area", pmap_area, CARD(loop), 2, 0, 2);
     compare_value("pmap_cross", pmap_cross, CARD(figure_1), 12, 0, 15);
     compare_value("pmap_cross", pmap_cross, CARD(figure_1), 1, 0, 4);
-    compare_value("pmap_turn", pmap_turn, CARD(figure_1), 12, 0, 16);
-    compare_value("pmap_turn", pmap_turn, CARD(figure_1), 28, 0, 0);
+    compare_turn(PMAP_CALL_TURN, CARD(figure_1), 12, on);
+    compare_turn(PMAP_CALL_TURN, CARD(figure_1), 28, gone_round);
     compare_value("pmap_point", pmap_point, CARD(figure_1), 16, 0, 5);
     compare_value("pmap_point", pmap_point, CARD(figure_1), 1, 0, 1);
     compare_value("pmap_area", pmap_area, CARD(figure_1), 23, 0, 1);
@@ -60,15 +63,17 @@ static void worked_examples(void)
     part_ends("document 01's examples");
 }
 
-/* The same numbers, asked for in sessions: across and back, round a point to its last place, and 13 from there on. */
+/* The same numbers, asked for in sessions: across and back, and round a point beyond its last place and back again. */
 static void worked_sessions(void)
 {
-    enum { CROSS, TURN, TURN_BACK, ALONG, POINT, AREA };
+    enum { CROSS, TURN, TURN_BACK, ALONG, POINT, AREA, SIGN = 0x8000 };
     static const struct given on_triangle = {1, 5, {CROSS, POINT, AREA, CROSS, AREA}, {0}, {5, 2, 2, 1, 1}, 1},
                               on_figure[] = {{12, 3, {TURN, POINT, TURN_BACK}, {0}, {16, 5, 12}, 12},
                                              {12, 4, {AREA, CROSS, CROSS, TURN}, {0}, {4, 15, 12, 16}, 16},
-                                             {28, 4, {TURN, TURN, POINT, CROSS}, {0, 13, 13, 13}, {0}, 0}},
-                              on_stub = {1, 3, {CROSS, CROSS, TURN}, {0}, {2, 1, 0}, 0},
+                                             {28, 4, {TURN, TURN, POINT, CROSS}, {0}, {SIGN + 1, 2, 1, 10}, 10},
+                                             {1, 4, {TURN_BACK, POINT, TURN_BACK, TURN}, {0}, {SIGN + 28, 1, 27, 28}, 28},
+                                             {29, 3, {TURN, TURN_BACK, CROSS}, {13, 13, 13}, {0}, 29}},
+                              on_stub = {1, 6, {CROSS, CROSS, TURN, TURN, TURN_BACK, POINT}, {0}, {2, 1, SIGN + 1, SIGN + 1, SIGN + 1, 1}, 1},
                               on_loop = {2, 4, {AREA, CROSS, AREA, ALONG}, {0}, {2, 1, 1, 1}, 1},
                               on_empty = {1, 2, {ALONG, AREA}, {13, 13}, {0}, 1};
     size_t place = 0, i;
@@ -269,6 +274,7 @@ int main(int argc, char **argv)
     prepare_lending(argc > 2 && strcmp(argv[2], "heap") == 0);
     worked_examples();
     worked_sessions();
+    known_turns();
     no_bytes();
     headers();
     every_count(small);
@@ -290,6 +296,8 @@ int main(int argc, char **argv)
     damaged();
     random_bytes(small ? 100 : 20000);
     long_sessions();
+    long_turns(small ? 12 : MOST_BORDERS, small ? 300 : 30000);
+    random_rounds(small ? 20 : 2000, 12);
     tours();
     if (!small) {
         large(2048, 6);
@@ -297,6 +305,7 @@ int main(int argc, char **argv)
         random_neighbours(24, MOST_BORDERS);
         ordered_factors(6, MOST_BORDERS);
         random_factors(24, MOST_BORDERS);
+        random_rounds(12, MOST_BORDERS);
     }
     every_status();
     return finish() > 0;

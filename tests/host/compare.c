@@ -24,17 +24,16 @@ static void give_back(const uint8_t *bytes, size_t length)
 
 /* ---- one answer ---- */
 
-static void compare(const char *call, size_t u, size_t v, const uint8_t *map, size_t length, struct reply want, uint8_t status,
-                    const uint16_t *cells)
+static void compare(const char *call, size_t u, size_t v, const uint8_t *map, size_t length, struct reply want, struct reply given)
 {
-    size_t want_cell = want.status == 0 ? want.value : OLD;
     compared_one();
-    if (status == want.status && cells[0] == FENCE && cells[1] == want_cell && cells[2] == FENCE) {
-        seen_once(status);
+    if (same_reply(given, want)) {
+        seen_once(given.status);
     } else {
         char detail[200];
-        snprintf(detail, sizeof detail, "of %zu, %zu: status %u, wanted %u; cell %u, wanted %zu%s", u, v, status, want.status,
-                 cells[1], want_cell, cells[0] == FENCE && cells[2] == FENCE ? "" : "; a cell beside it was written");
+        snprintf(detail, sizeof detail, "of %zu, %zu: status %u, wanted %u; answer %zu, wanted %zu%s; sign %u, wanted %u", u, v,
+                 given.status, want.status, given.value, want.value, given.value == OLD ? ": a cell is not as it must be" : "",
+                 given.sign, want.sign);
         differs(call, map, length, detail);
     }
 }
@@ -44,31 +43,30 @@ static void compare(const char *call, size_t u, size_t v, const uint8_t *map, si
 /* The book is NULL where the card was refused: every call gets that number. */
 static void compare_call(const struct call *call, const uint8_t *map, size_t length, uint8_t opening, const struct book *b, size_t k)
 {
-    uint16_t cells[3] = {FENCE, OLD, FENCE};
-    struct reply want = {opening, 0};
+    struct reply want = {opening, 0, 0};
     if (opening == 0) want = call->book(b, k);
-    compare(call->name, k, 0, map, length, want, call->library(map, length, k, &cells[1]), cells);
+    compare(call->name, k, 0, map, length, want, library_reply(call, map, length, k));
 }
 
 static void compare_joining(const uint8_t *map, size_t length, uint8_t opening, const struct book *b, size_t u, size_t v)
 {
     uint16_t cells[3] = {FENCE, OLD, FENCE};
-    struct reply want = {opening, 0};
+    struct reply want = {opening, 0, 0};
     if (opening == 0) want = book_joining(b, u, v);
-    compare("pmap_joining", u, v, map, length, want, pmap_joining(map, length, u, v, &cells[1]), cells);
+    compare("pmap_joining", u, v, map, length, want, reply_of(pmap_joining(map, length, u, v, &cells[1]), cells));
 }
 
 static void compare_open(const uint8_t *map, size_t length, uint8_t opening, const struct book *b)
 {
     uint16_t cells[5] = {FENCE, OLD, FENCE, OLD, FENCE};
-    struct reply m = {opening, 0}, n = {opening, 0};
+    struct reply m = {opening, 0, 0}, n = m;
     uint8_t status = pmap_open(map, length, &cells[1], &cells[3]);
     if (opening == 0) {
         m.value = b->drawing->m;
         n.value = b->n;
     }
-    compare("pmap_open, m", 0, 0, map, length, m, status, &cells[0]);
-    compare("pmap_open, n", 0, 0, map, length, n, status, &cells[2]);
+    compare("pmap_open, m", 0, 0, map, length, m, reply_of(status, &cells[0]));
+    compare("pmap_open, n", 0, 0, map, length, n, reply_of(status, &cells[2]));
 }
 
 /* ---- all answers of a card ---- */
@@ -187,9 +185,14 @@ void compare_refused_open(const uint8_t *bytes, size_t length, uint8_t status)
 
 void compare_value(const char *name, library_call *call, const uint8_t *map, size_t length, size_t number, uint8_t status, size_t value)
 {
-    uint16_t cells[3] = {FENCE, OLD, FENCE};
-    struct reply want = {status, value};
-    compare(name, number, 0, map, length, want, call(map, length, number, &cells[1]), cells);
+    struct call one = {name, call, NULL, NULL};
+    struct reply want = {status, value, 0};
+    compare(name, number, 0, map, length, want, library_reply(&one, map, length, number));
+}
+
+void compare_turn(uint8_t code, const uint8_t *map, size_t length, size_t place, struct reply want)
+{
+    compare(of_place[code].name, place, 0, map, length, want, library_reply(&of_place[code], map, length, place));
 }
 
 void compare_areas(const uint8_t *bytes, size_t length)

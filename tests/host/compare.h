@@ -8,8 +8,9 @@
 #include "calls.h"
 #include "reference.h"
 
-/* One call about a number, with what it must give. */
+/* One call about a number, with what it must give; a turn or a turn back, by its code. */
 void compare_value(const char *name, library_call *call, const uint8_t *map, size_t length, size_t number, uint8_t status, size_t value);
+void compare_turn(uint8_t code, const uint8_t *map, size_t length, size_t place, struct reply want);
 
 /* A card that is refused: opening, every call, every session and every factor give that number, whatever was asked. */
 void compare_refused(const uint8_t *map, size_t length, uint8_t status);

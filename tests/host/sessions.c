@@ -71,14 +71,15 @@ static void compare_single(const uint8_t *map, size_t length, const struct asked
 {
     size_t place = s->first, i;
     for (i = 0; i < s->calls_len; i++) {
-        uint16_t cell = 0;
-        uint8_t code = s->calls[i], status = of_place[code].library(map, length, place, &cell);
+        uint8_t code = s->calls[i];
+        struct reply in_session = {told->statuses[i], told->answers[i] % SIGN_BIT, told->answers[i] / SIGN_BIT},
+                     single = library_reply(&of_place[code], map, length, place);
         compared_one();
-        if (status != told->statuses[i] || cell != told->answers[i]) {
-            session_differs(of_place[code].name, map, length, s, status, told->statuses[i]);
+        if (!same_reply(single, in_session)) {
+            session_differs(of_place[code].name, map, length, s, single.status, in_session.status);
             return;
         }
-        if (status == 0 && code < MOVES) place = cell;
+        if (single.status == 0 && code < MOVES) place = single.value;
     }
     expect(place == told->place, "pmap_session", "leaves another place than single calls");
 }
@@ -95,24 +96,28 @@ static size_t first_number(const struct book *b)
     return which < 10 ? 2 * m + 1 + random_below(2) : 1 + random_below(2 * m);
 }
 
-/* Codes by chance. With a book most moves to place 0 are left out: there every further call gets 13. */
-static void make_calls(const struct book *b, size_t place, uint8_t *calls, size_t count)
+static uint8_t calls[MOST_CALLS];
+
+static void make_calls(size_t count)
 {
     size_t i;
+    for (i = 0; i < count; i++) calls[i] = (uint8_t)random_below(OF_PLACE);
+}
+
+/* Turns only: in one sense, in the other, or now so and now so. */
+enum { ONWARDS, BACKWARDS, BOTH, SENSES };
+
+static void make_turns(size_t count, int sense)
+{
+    uint8_t code = sense == BACKWARDS ? PMAP_CALL_TURN_BACK : PMAP_CALL_TURN;
+    size_t i;
     for (i = 0; i < count; i++) {
-        size_t before = place;
-        calls[i] = (uint8_t)random_below(OF_PLACE);
-        if (b == NULL) continue;
-        book_step(b, calls[i], &place);
-        if (place == 0 && before != 0 && random_below(2 * count + 20) >= 8) {
-            calls[i] = random_below(2) ? PMAP_CALL_CROSS : PMAP_CALL_ALONG;
-            place = before;
-            book_step(b, calls[i], &place);
-        }
+        if (sense == BOTH && random_below(500) == 0) code = (uint8_t)(PMAP_CALL_TURN + PMAP_CALL_TURN_BACK - code);
+        calls[i] = code;
     }
 }
 
-static void harm(struct asked *s, uint8_t *calls, int how)
+static void harm(struct asked *s, int how)
 {
     static const uint8_t no_codes[] = {6, 255, 7, 128, 13, 6};
     uint8_t code = no_codes[random_below(sizeof no_codes)];
@@ -135,11 +140,9 @@ static void work_out(struct told *told, const struct book *b, const struct asked
     for (i = 0; i < s->calls_len; i++) {
         struct reply reply = book_step(b, s->calls[i], &told->place);
         told->statuses[i] = reply.status;
-        told->answers[i] = (uint16_t)reply.value;
+        told->answers[i] = session_entry(reply);
     }
 }
-
-static uint8_t calls[MOST_CALLS];
 
 /* `opening` is what opening the map gives; the book is NULL where that is a refusal. */
 static void compare_asked(const uint8_t *map, size_t length, uint8_t opening, const struct book *b, const struct asked *s)
@@ -153,8 +156,8 @@ static void compare_asked(const uint8_t *map, size_t length, uint8_t opening, co
 static void try_session(const uint8_t *map, size_t length, uint8_t opening, const struct book *b, size_t first, size_t count, int how)
 {
     struct asked s = {first, calls, count, count + some_more(), count + some_more()};
-    make_calls(b, first, calls, count);
-    harm(&s, calls, how);
+    make_calls(count);
+    harm(&s, how);
     compare_asked(map, length, opening, b, &s);
 }
 
@@ -168,14 +171,10 @@ static size_t make_tour(const struct book *b)
         calls[count++] = PMAP_CALL_AREA;
         calls[count++] = PMAP_CALL_CROSS;
         calls[count++] = PMAP_CALL_CROSS;
-        if (book_turn(b, p).value != 0) {
-            calls[count++] = PMAP_CALL_TURN;
-            calls[count++] = PMAP_CALL_TURN_BACK;
-        }
-        if (book_turn_back(b, p).value != 0) {
-            calls[count++] = PMAP_CALL_TURN_BACK;
-            calls[count++] = PMAP_CALL_TURN;
-        }
+        calls[count++] = PMAP_CALL_TURN;
+        calls[count++] = PMAP_CALL_TURN_BACK;
+        calls[count++] = PMAP_CALL_TURN_BACK;
+        calls[count++] = PMAP_CALL_TURN;
         calls[count] = marked(b->drawing, b->end_at[p]) ? PMAP_CALL_ALONG : PMAP_CALL_TURN;
         book_step(b, calls[count++], &place);
     }
@@ -212,6 +211,19 @@ void compare_long_sessions(const uint8_t *bytes, size_t length, size_t count)
     for (how = WHOLE; how < HARMS; how++) try_session(map, length, 0, &book, 1 + random_below(2 * drawing.m), count, how);
     try_session(map, length, 0, &book, 2 * drawing.m + 1, count, WHOLE);
     expect(take_back(&map_loan, bytes), "pmap_session", "the card was changed");
+}
+
+void compare_turns(const uint8_t *bytes, size_t length, size_t first, size_t count)
+{
+    static struct drawing drawing;
+    static struct book book;
+    struct asked s = {first, calls, count, count, count};
+    int sense;
+    expect(unpack(bytes, length, &drawing) == 0 && make_book(&drawing, &book), "reference", "the card does not open");
+    for (sense = ONWARDS; sense < SENSES; sense++) {
+        make_turns(count, sense);
+        compare_asked(bytes, length, 0, &book, &s);
+    }
 }
 
 void compare_tour(const uint8_t *bytes, size_t length)

@@ -25,6 +25,9 @@ void compare_sessions(const uint8_t *map, size_t length, uint8_t opening, const 
 /* Sessions of `count` calls on bytes that open: from places and from numbers off the map, each harmed in every way too. */
 void compare_long_sessions(const uint8_t *bytes, size_t length, size_t count);
 
+/* Sessions of `count` turns on bytes that open: on, back, and both by chance. */
+void compare_turns(const uint8_t *bytes, size_t length, size_t first, size_t count);
+
 /* One session over every place of bytes that open. */
 void compare_tour(const uint8_t *bytes, size_t length);
 

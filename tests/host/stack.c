@@ -22,17 +22,19 @@ static ucontext_t here, there;
 /* What is called, and on what. */
 static void (*task)(void);
 static library_call *call;
+static library_turn *turn;
 static struct card card;
 static size_t asked, left, areas;
 static uint16_t turning[2 * BORDERS], again[2 * BORDERS], work[6 * BORDERS], answers[CALLS], m, n, out;
-static uint8_t marks[BORDERS], found[BORDERS], status, bytes[PMAP_LONGEST], calls[CALLS], statuses[CALLS];
+static uint8_t marks[BORDERS], found[BORDERS], status, gone_round, bytes[PMAP_LONGEST], calls[CALLS], statuses[CALLS];
 static uint8_t kinds[AREAS];
 static double values[3 * AREAS], factor;
 static uint32_t packed;
 
 static void nothing(void) { status = 0; }
 static void open_card(void) { status = pmap_open(card.bytes, card.length, &m, &n); }
-static void ask(void) { status = call(card.bytes, card.length, asked, &out); }
+static void ask_number(void) { status = call(card.bytes, card.length, asked, &out); }
+static void ask_turn(void) { status = turn(card.bytes, card.length, asked, &out, &gone_round); }
 static void find_factor(void) { status = pmap_factor(card.bytes, card.length, asked, kinds, areas, values, 3 * areas, &factor); }
 static void join(void) { status = pmap_joining(card.bytes, card.length, asked, asked, &out); }
 static void run_session(void) { status = pmap_session(card.bytes, card.length, asked, calls, CALLS, statuses, CALLS, answers, CALLS, &left); }
@@ -97,7 +99,7 @@ static void keep_most_of_first(size_t points, unsigned lean, size_t *neighbours,
     areas = BORDERS - points + 2;
     call = pmap_neighbours;
     asked = 1;
-    keep_most(neighbours, ask);
+    keep_most(neighbours, ask_number);
     keep_most_factor(factors);
 }
 
@@ -115,19 +117,20 @@ int main(void)
         keep_most(&opening, open_card);
         for (i = 0; i < 6 * OF_PLACE; i++) {
             call = of_place[i % OF_PLACE].library;
+            turn = of_place[i % OF_PLACE].turn;
             asked = random_below(2 * borders + 2);
-            keep_most(&places, ask);
+            keep_most(&places, turn != NULL ? ask_turn : ask_number);
         }
         for (i = 0; i < 6 * OF_POINT; i++) {
             call = of_point[i % OF_POINT].library;
             asked = random_below((size_t)n + 2);
-            keep_most(&points, ask);
+            keep_most(&points, ask_number);
             keep_most(&joining, join);
         }
         for (i = 0; i < 6 * OF_AREA; i++) {
             call = of_area[i % OF_AREA].library;
             asked = random_below((size_t)m - n + 4);
-            keep_most(call == pmap_neighbours ? &neighbours : &of_areas, ask);
+            keep_most(call == pmap_neighbours ? &neighbours : &of_areas, ask_number);
         }
         areas = (size_t)m - n + 2;
         keep_most_factor(&factors);

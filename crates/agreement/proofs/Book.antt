@@ -1,7 +1,7 @@
 -- The book's answers are the word's: every call at every number, every session, and every number of a point or an area.
 --
 -- isNumbered D c k == whether k is one of the numbers 1 to 1 + the openings of c's family in D's word
--- answer-agrees  == the answer of a call at the end at position p
+-- answer-agrees, sign-agrees == the number that a call answers at the end at position p, and its sign
 -- book-call      == the answer of a call at any number, refusals included
 -- session-same   == sessions are alike where all answers are
 -- book-session   == so is every session
@@ -21,7 +21,7 @@ use lib.Dec.{eqb, ltb, leb}
 use borrow.Author.Tests.{eqb-true, eq-eqb, ltb-true, leb-true}
 use Rattle.count.specs.Below.{pick}
 use Rattle.count.proofs.Logic.{true-or-false, both-left, both-right, bool-same}
-use Rattle.answers.specs.Answer.{Answer, answer, refused, Kind, noSuch}
+use Rattle.answers.specs.Answer.{Answer, answer, refused, Reply, Kind, noSuch}
 use Rattle.words.specs.Brackets.{Bracket, step, number, first}
 use Rattle.words.specs.declared.family.Family.the-variants.{Round as round, Square as square}
 use Rattle.words.specs.Word.{seen, mateIn}
@@ -30,12 +30,12 @@ use Rattle.words.proofs.Numbers.{openings}
 use Rattle.words.proofs.Sizes.{first-below}
 use Rattle.drawing.specs.Drawing.{Drawing, borders, ends, other, turn, around, cells, endAt, positionOf}
 use Rattle.drawing.specs.Session.{Call, placeAfter, session}
-use Rattle.drawing.specs.Book.{placeOf, numberAt, answerAt, bookAnswer, bookSession, hasNumber, firstPosition, endsOn, joinFrom}
+use Rattle.drawing.specs.Book.{placeOf, numberAt, answerAt, signAt, replyAt, bookAnswer, bookSession, hasNumber, firstPosition, endsOn, joinFrom}
 use Rattle.drawing.specs.Book.{bookFirst, bookSize, bookNeighbours, bookLandings, bookJoining}
 use Rattle.drawing.specs.Neighbours.{landings}
 use Rattle.drawing.proofs.Neighbours.{neighbours-same, landings-same}
 use Rattle.format.specs.Pack.{wordOf}
-use Rattle.format.specs.Calls.{moveIn, firstIn, placesIn, neighboursIn, landingsIn, joinIn}
+use Rattle.format.specs.Calls.{moveIn, signIn, replyIn, firstIn, placesIn, neighboursIn, landingsIn, joinIn}
 use Rattle.format.proofs.Places.{atPlace}
 use Rattle.agreement.specs.Toured.{Toured}
 use Rattle.agreement.proofs.Positions.{partner, end-other, partner-below}
@@ -47,7 +47,7 @@ use Rattle.agreement.proofs.Counts.{cells-agree}
 abbrev pub isNumbered : Drawing → Kind → ℕ → Bool
 isNumbered D c k = ltb 0 k && leb k (1 + openings (cellWord D c) (ends D))
 
-pub session-same : (f g : Call → ℕ → Answer ℕ) → ((c : Call) (i : ℕ) → f c i ≡ g c i) → (i : ℕ) (cs : List Call) → session f i cs ≡ session g i cs
+pub session-same : (f g : Call → ℕ → Answer Reply) → ((c : Call) (i : ℕ) → f c i ≡ g c i) → (i : ℕ) (cs : List Call) → session f i cs ≡ session g i cs
 unfolding session
 session-same f g same i [] = refl
 session-same f g same i (c ∷ cs) = rw (same c i, session-same f g same (placeAfter c (g c i) i) cs)
@@ -64,12 +64,23 @@ module _ {D : Drawing} (T : Toured D) where
   pub answer-agrees : (c : Call) (p : ℕ) → p < ends D → answerAt D c (endAt D p) ≡ moveIn (wordOf D) c p
   unfolding answerAt moveIn wordOf
   answer-agrees Call.cross p l = ap suc (cross-mate T p l)
-  answer-agrees Call.turn p l =
-      ap₂ (λ (t : Bool) (x : ℕ). pick t 0 (suc x)) (turn-lowest T p l) (ap (positionOf D) (turn-around D (endAt D p)) ∙ around-step T Kind.point p l)
-  answer-agrees Call.turn-back p l = ap₂ (λ (t : Bool) (x : ℕ). pick t 0 (suc x)) (lowest-agrees T Kind.point p l) (entry-back T p l)
+  answer-agrees Call.turn p l = ap suc (ap (positionOf D) (turn-around D (endAt D p)) ∙ around-step T Kind.point p l)
+  answer-agrees Call.turn-back p l = ap suc (entry-back T p l)
   answer-agrees Call.along p l = ap suc (around-step T Kind.area p l)
   answer-agrees Call.point p l = number-agrees T Kind.point p l
   answer-agrees Call.area p l = number-agrees T Kind.area p l
+
+  pub sign-agrees : (c : Call) (p : ℕ) → p < ends D → signAt D c (endAt D p) ≡ signIn (wordOf D) c p
+  unfolding signAt signIn wordOf
+  sign-agrees Call.cross p l = refl
+  sign-agrees Call.turn p l = turn-lowest T p l
+  sign-agrees Call.turn-back p l = lowest-agrees T Kind.point p l
+  sign-agrees Call.along p l = refl
+  sign-agrees Call.point p l = refl
+  sign-agrees Call.area p l = refl
+
+  reply-agrees : (c : Call) (p : ℕ) → p < ends D → replyAt D c (endAt D p) ≡ replyIn (wordOf D) c p
+  reply-agrees c p l = ap₂ (λ (x : ℕ) (t : Bool). record { value = x; sign = t }) (answer-agrees c p l) (sign-agrees c p l)
 
   pub book-call : (c : Call) (i : ℕ) → bookAnswer D c i ≡ atPlace (wordOf D) c i
   unfolding bookAnswer atPlace wordOf
@@ -78,7 +89,7 @@ module _ {D : Drawing} (T : Toured D) where
         | inl t ↦
             let low : 0 < i = ltb-true 0 i (both-left (ltb 0 i) (leb i (ends D)) t) in
             let high : i ≤ ends D = leb-true i (ends D) (both-right (ltb 0 i) (leb i (ends D)) t) in
-            ap (λ (x : ℕ). pick (ltb 0 i && leb i (ends D)) (answer x) (refused 13)) (answer-agrees c (pred i) (omega arith))
+            ap (λ (r : Reply). pick (ltb 0 i && leb i (ends D)) (answer r) (refused 13)) (reply-agrees c (pred i) (omega arith))
         | inr f ↦ rw f
       ]
 

@@ -27,7 +27,8 @@ use Rattle.words.specs.declared.family.Family.the-variants.{Round as round}
 use Rattle.words.specs.Word.{seen}
 use Rattle.words.proofs.Stack.{inner-le, inner-below, inner-inner}
 use Rattle.words.proofs.Step.{step-below, step-permutes}
-use Rattle.words.proofs.Numbers.{openings, first-is, last-step}
+use Rattle.words.proofs.Numbers.{openings}
+use Rattle.words.proofs.Round.{first-step}
 use Rattle.words.proofs.Points.{step-cycle, number-cycle, leads-first, cycles-step, number-leads}
 use Rattle.drawing.specs.Drawing.{Drawing, ends, turn, around, cellOf, endAt}
 use Rattle.drawing.specs.Book.{lowPosition, isLowest, numberAt, firstPosition, endsOn}
@@ -126,7 +127,6 @@ pub turn-lowest : {D : Drawing} → Toured D → (p : ℕ) → p < ends D
 turn-lowest {D} T p l =
     let b : ℕ → Bracket = seen round (wordOf D) in
     let q : ℕ = step b (ends D) p in
-    let last = last-step b (ends D) (word-balanced T round) p l in
     ap (isLowest D Kind.point) (turn-end T p l)
     ∙ lowest-agrees T Kind.point q (step-below b (ends D) (word-balanced T round) p l)
-    ∙ bool-same (isFirst b q) (isLast b (ends D) p) (λ t. last .1 (first-is b q .0 t)) (λ t. first-is b q .1 (last .0 t))
+    ∙ first-step b (ends D) (word-balanced T round) p l

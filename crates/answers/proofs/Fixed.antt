@@ -2,18 +2,18 @@
 --
 -- fixed            == if every answer can be read back from what it means, answers that mean the same are the same
 -- readBack         == from what is meant to the answer, of an enum with a case for values and one for refusals that carry nothing
--- opened-fixed, place-fixed, point-fixed, area-fixed, count-fixed, factor-fixed, packed-fixed, unpacked-fixed, parsed-fixed == so it is with
+-- opened-fixed, place-fixed, turn-fixed, point-fixed, area-fixed, count-fixed, factor-fixed, packed-fixed, unpacked-fixed, parsed-fixed == so it is with
 --                     each enum
 -- rehearsed-fixed  == and with a rehearsal's, by what it says of packing and what it means
 -- Assumes nothing.
 use mathlib.Core.Path.{_≡_, refl, sym, ap, _∙_}
 use mathlib.Core.List.{[], _∷_}
 use Prim.Native.Nat.{ℕ}
-use lib.Ieee.{Float}
-use Rattle.answers.specs.Answer.{Answer, answer, refusedWith, Size}
-use Rattle.answers.specs.Means.{openedMeans, placeMeans, pointMeans, areaMeans, countMeans, factorMeans, packedMeans, unpackedMeans, parsedMeans, packingSaid, rehearsedMeans}
+use Rattle.answers.specs.Answer.{Answer, answer, refusedWith, Reply, Size}
+use Rattle.answers.specs.Means.{openedMeans, placeMeans, turnMeans, pointMeans, areaMeans, countMeans, factorMeans, packedMeans, unpackedMeans, parsedMeans, packingSaid, rehearsedMeans}
 use Rattle.answers.specs.declared.cases.Opened.{Opened}
 use Rattle.answers.specs.declared.cases.PlaceAnswer.{PlaceAnswer}
+use Rattle.answers.specs.declared.cases.TurnAnswer.{TurnAnswer}
 use Rattle.answers.specs.declared.cases.PointAnswer.{PointAnswer}
 use Rattle.answers.specs.declared.cases.AreaAnswer.{AreaAnswer}
 use Rattle.answers.specs.declared.cases.Count.{Count}
@@ -48,6 +48,17 @@ place-reads (PlaceAnswer.Declined k) = refl
 
 pub place-fixed : (r q : PlaceAnswer) → placeMeans r ≡ placeMeans q → r ≡ q
 place-fixed = fixed placeMeans place-back place-reads
+
+abbrev turn-back : Answer Reply → TurnAnswer
+turn-back = readBack (λ (r : Reply). TurnAnswer.At (record { 0 = r .value }) (r .sign)) TurnAnswer.Declined
+
+turn-reads : (r : TurnAnswer) → turn-back (turnMeans r) ≡ r
+unfolding readBack
+turn-reads (TurnAnswer.At x t) = refl
+turn-reads (TurnAnswer.Declined k) = refl
+
+pub turn-fixed : (r q : TurnAnswer) → turnMeans r ≡ turnMeans q → r ≡ q
+turn-fixed = fixed turnMeans turn-back turn-reads
 
 point-reads : (r : PointAnswer) → readBack (λ x. PointAnswer.Is (record { 0 = x })) PointAnswer.Declined (pointMeans r) ≡ r
 unfolding readBack

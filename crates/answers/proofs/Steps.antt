@@ -15,6 +15,7 @@
 -- checked-none, checked-some == a call by its number; no check carries anything (`bare`)
 -- answered-all, answered-none == an answer comes only where all tests hold, so that no check refuses
 -- checked-answers  == the same of a call whose own answer may be a refusal
+-- told-answered    == what is told of an answer tells that there is one
 -- Refusals, by-refusals == what holds of every number with what it carries holds of the refusal that comes out
 -- checked-same     == answers that are the same where the checks pass
 -- checked-answered, checked-refused == a call that runs the checks of another one first
@@ -29,7 +30,7 @@ use lib.ListN.{length}
 use borrow.Author.Tests.{ltb-true, eqb-true}
 use Rattle.count.specs.Below.{pick}
 use Rattle.count.proofs.Logic.{both-left, both-right, true-not-false}
-use Rattle.answers.specs.Answer.{Answer, answer, refusedWith, refused, numberOf}
+use Rattle.answers.specs.Answer.{Answer, answer, refusedWith, refused, numberOf, told}
 use Rattle.answers.proofs.Order.{checked-append}
 use Rattle.answers.specs.Checks.{Check, unless, refusalIn, checked, after, checkAt, numbered, isBare, bare}
 
@@ -183,6 +184,11 @@ checked-answers (c ∷ cs) a y e = go (c .test) refl (checked-answers cs a y)
     go : (t : Bool) → c .test ≡ t → (checked cs a ≡ answer y → (refusalIn cs ≡ 0) × (a ≡ answer y)) → (refusalIn (c ∷ cs) ≡ 0) × (a ≡ answer y)
     go true h rest = rw h (rest (rw h at e))
     go false h rest = let z : _≡_ {A = ℕ} 0 1 = cc (rw h at e) in absurd (omega arith)
+
+-- what is told of an answer
+pub told-answered : {A B : Type 0} (f : A → B) (a : Answer A) (y : B) → told f a ≡ answer y → (x : A) × (a ≡ answer x) × (f x ≡ y)
+told-answered f (answer x) y e = (x, refl, cc)
+told-answered f (refusedWith k xs) y e = let z : _≡_ {A = ℕ} 0 1 = cc in absurd (omega arith)
 
 -- what holds of every number with what it carries holds of the refusal that comes out
 abbrev pub Refusals : (ℕ → List ℕ → Type 0) → List Check → Type 0

@@ -2,6 +2,7 @@
 -- values."
 --
 -- openedMeans r    == m and n, or the number of the refusal
+-- turnMeans r      == the place and whether the turn has gone round, or the number of the refusal
 -- placeMeans, pointMeans, areaMeans, countMeans, factorMeans == the value, or the number of the refusal
 -- packedMeans r    == the map's length, or the number of the refusal with what it carries
 -- unpackedMeans r, parsedMeans r == m, or the number of the refusal
@@ -11,9 +12,10 @@
 use mathlib.Core.List.{[], _∷_}
 use Prim.Native.Nat.{ℕ}
 use lib.Ieee.{Float}
-use Rattle.answers.specs.Answer.{Answer, answer, refusedWith, refused, Size}
+use Rattle.answers.specs.Answer.{Answer, answer, refusedWith, refused, Reply, Size}
 use Rattle.answers.specs.declared.cases.Opened.{Opened}
 use Rattle.answers.specs.declared.cases.PlaceAnswer.{PlaceAnswer}
+use Rattle.answers.specs.declared.cases.TurnAnswer.{TurnAnswer}
 use Rattle.answers.specs.declared.cases.PointAnswer.{PointAnswer}
 use Rattle.answers.specs.declared.cases.AreaAnswer.{AreaAnswer}
 use Rattle.answers.specs.declared.cases.Count.{Count}
@@ -30,6 +32,11 @@ openedMeans (Opened.Declined k) = refused k
 abbrev pub placeMeans : PlaceAnswer → Answer ℕ
 placeMeans (PlaceAnswer.At p) = answer (p .0)
 placeMeans (PlaceAnswer.Declined k) = refused k
+
+-- 02, 8/14: "each with a sign that it has gone round"
+abbrev pub turnMeans : TurnAnswer → Answer Reply
+turnMeans (TurnAnswer.At p round) = answer (record { value = p .0; sign = round })
+turnMeans (TurnAnswer.Declined k) = refused k
 
 abbrev pub pointMeans : PointAnswer → Answer ℕ
 pointMeans (PointAnswer.Is p) = answer (p .0)

@@ -14,6 +14,12 @@ pub enum PlaceAnswer {
     Declined(u8),
 }
 
+// Where a turn leads, and whether it has gone round.
+pub enum TurnAnswer {
+    At(Place, bool),
+    Declined(u8),
+}
+
 pub enum PointAnswer {
     Is(Point),
     Declined(u8),

@@ -2,7 +2,7 @@
 // in proofs/, no function.
 //
 //     Place, Point, Area                            a number of each kind
-//     Opened, PlaceAnswer, PointAnswer, AreaAnswer, Count, FactorAnswer    what calls on a map answer, and a session
+//     Opened, PlaceAnswer, TurnAnswer, PointAnswer, AreaAnswer, Count, FactorAnswer   what calls on a map answer, and a session
 //     Packed, Unpacked, Parsed, Rehearsed           what the desk answers
 //
 // Conventions. A place never serves as a point or an area number, so each kind has a type of its own. The number of the check that
@@ -19,6 +19,7 @@ pub use cases::Parsed;
 pub use cases::PlaceAnswer;
 pub use cases::PointAnswer;
 pub use cases::Rehearsed;
+pub use cases::TurnAnswer;
 pub use cases::Unpacked;
 pub use numbers::Area;
 pub use numbers::Place;

@@ -9,32 +9,36 @@ use answers::Place;
 use answers::Point;
 use layout::bits_a;
 use surveying::area_in;
-use surveying::mate_in;
+use surveying::back_in;
 use surveying::own_mate_in;
 use surveying::point_in;
 use surveying::step_in;
-use walking::turn_back_past;
-use walking::turn_past;
+use walking::Turn;
+use walking::turn_back_to;
+use walking::turn_to;
 use words::Family;
 ghost use mathlib.Core.Path.{_≡_};
 ghost use Prim.Native.Nat.{_<_};
-ghost use Rattle.drawing.specs.Session.{Call};
 ghost use Rattle.format.specs.Bytes.{wordIn};
-ghost use Rattle.format.specs.Calls.{moveIn, mapAnswer};
-ghost use Rattle.format.specs.Sessions.{callOf};
-ghost use Rattle.surveying.specs.Surveyed.{Mates};
+ghost use Rattle.format.specs.Calls.{mapAnswer};
+ghost use Rattle.format.specs.Sessions.{callOf, goneRoundBit, entryOf};
 ghost use Rattle.walking.specs.Positions.{Position};
+ghost use Rattle.walking.specs.Turns.{turnReply};
 ghost use Rattle.calling.specs.Lists.{Surveyed};
-ghost use Rattle.calling.specs.Told.{foundNumber, placeFrom, Finds, Gives};
+ghost use Rattle.calling.specs.Told.{foundReply, placeFrom, Finds, Gives};
 
-// What a call answers at a place: a move another place, the others its point or its area.
+// What the sign adds to a place in the list of answers: bit 15.
+const GONE_ROUND: usize = 32768;
+
+// What a call answers at a place: a move another place, a turn also whether it has gone round, the others its point or its area.
 pub enum Found {
     To(Place),
+    Turned(Turn),
     About(Point),
     On(Area),
 }
 
-// What one call gives: its status, its answer as a number for the list of answers, and the place after it.
+// What one call gives: its status, its entry in the list of answers, and the place after it.
 pub struct Told {
     pub status: u8,
     pub value: u16,
@@ -77,12 +81,12 @@ fn refused(at: Place) -> Told
 
 // What was found, told to one who was at a place.
 fn answered(found: Found, at: Place) -> Told
-    requires { ⌜ foundNumber found < 65536 ⌝ }
-    ensures { λ r. ⌜ (r .status ≡ 0) × (r .value ≡ foundNumber found) × (r .place .0 ≡ placeFrom found (at .0)) ⌝ }
+    requires { ⌜ foundReply found .value < goneRoundBit ⌝ }
+    ensures { λ r. ⌜ (r .status ≡ 0) × (r .value ≡ entryOf (foundReply found)) × (r .place .0 ≡ placeFrom found (at .0)) ⌝ }
 {
     Told {
         status: 0,
-        value: number_of(found) as u16,
+        value: entry_of(found) as u16,
         place: place_after(found, at),
     }
 }
@@ -93,20 +97,32 @@ fn place_after(found: Found, at: Place) -> Place
 {
     match found {
         Found::To(p) => p,
+        Found::Turned(turn) => turn.place,
         Found::About(_) => at,
         Found::On(_) => at,
     }
 }
 
-// The number for the list of answers.
-fn number_of(found: Found) -> usize
-    ensures { λ r. ⌜ r ≡ foundNumber found ⌝ }
+// The entry in the list of answers: the number, and bit 15 where a turn has gone round.
+fn entry_of(found: Found) -> usize
+    requires { ⌜ foundReply found .value < goneRoundBit ⌝ }
+    ensures { λ r. ⌜ r ≡ entryOf (foundReply found) ⌝ }
 {
     match found {
         Found::To(p) => p.0,
+        Found::Turned(turn) => turn_entry(turn),
         Found::About(p) => p.0,
         Found::On(a) => a.0,
     }
+}
+
+// The same of a turn.
+fn turn_entry(turn: Turn) -> usize
+    requires { ⌜ turn .place .0 < goneRoundBit ⌝ }
+    ensures { λ r. ⌜ r ≡ entryOf (turnReply turn) ⌝ }
+{
+    let at = turn.place;
+    if turn.round { at.0 + GONE_ROUND } else { at.0 }
 }
 
 // What a call answers at position p.
@@ -116,31 +132,10 @@ fn found_at(map: &[u8], mates: &[u16], areas: &[u16], points: &[u16], code: u8, 
 {
     match code {
         CROSS => Found::To(Place(own_mate_in(map, mates, p) + 1)),
-        TURN => Found::To(turn_in(map, mates, p)),
-        TURN_BACK => Found::To(turn_back_in(map, mates, p)),
+        TURN => Found::Turned(turn_to(map, p, step_in(map, mates, Family::Round, p))),
+        TURN_BACK => Found::Turned(turn_back_to(map, p, back_in(map, mates, Family::Round, p))),
         ALONG => Found::To(Place(step_in(map, mates, Family::Square, p) + 1)),
         POINT => Found::About(point_in(map, points, p)),
         _ => Found::On(area_in(map, areas, p)),
     }
-}
-
-// Turn, by the partner among the round brackets.
-fn turn_in(map: &[u8], mates: &[u16], p: usize) -> Place
-    requires { ⌜ Position (now map) p × Mates (now map) (now mates) ⌝ }
-    ensures { λ r. ⌜ r .0 ≡ moveIn (wordIn (now (map .entry))) Call.turn p ⌝ }
-{
-    let q = mate_in(map, mates, Family::Round, p);
-    Place(turn_past(map, p, q))
-}
-
-// Turn back, by the partner of the position before; 0 at the first place.
-fn turn_back_in(map: &[u8], mates: &[u16], p: usize) -> Place
-    requires { ⌜ Position (now map) p × Mates (now map) (now mates) ⌝ }
-    ensures { λ r. ⌜ r .0 ≡ moveIn (wordIn (now (map .entry))) Call.turn-back p ⌝ }
-{
-    if p == 0 {
-        return Place(0);
-    }
-    let q = mate_in(map, mates, Family::Round, p - 1);
-    Place(turn_back_past(map, p, q))
 }

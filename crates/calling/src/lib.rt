@@ -2,7 +2,7 @@
 //
 //     tell    what a call gives at a place: its status, its answer, and the place after it
 //     Told    the same, as a struct
-//     Found   what it answers there: a place, a point or an area
+//     Found   what it answers there: a place, where a turn leads and whether it has gone round, a point or an area
 //     CROSS, TURN, TURN_BACK, ALONG, POINT, AREA   the codes of the calls
 //
 // Conventions. A call is asked for by its code; every code above AREA asks for the area. The place is any number. It is looked up

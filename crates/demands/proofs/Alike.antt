@@ -28,7 +28,7 @@ use Rattle.drawing.specs.Neighbours.{landings}
 use Rattle.drawing.proofs.Neighbours.{neighbours-same, landings-same}
 use Rattle.words.proofs.Mates.{mate-in-below}
 use Rattle.words.proofs.Sizes.{first-below}
-use Rattle.format.specs.Calls.{familyOfKind, moveIn, firstIn, placesIn, neighboursIn, landingsIn, joinIn}
+use Rattle.format.specs.Calls.{familyOfKind, moveIn, signIn, replyIn, firstIn, placesIn, neighboursIn, landingsIn, joinIn}
 use Rattle.format.proofs.Places.{atPlace}
 
 pub record Alike (v w : Word) : Type 0 where
@@ -39,19 +39,20 @@ module _ (n : ℕ) (f g : ℕ → Letter) (same : (p : ℕ) → p < n → f p �
   move-same : (c : Call) (p : ℕ) → p < n → moveIn (word n f) c p ≡ moveIn (word n g) c p
   unfolding moveIn
   move-same Call.cross p l = ap suc (mate-in-same n f g same p l)
-  move-same Call.turn p l =
-      rw (
-        isLast-same (seen round (word n f)) (seen round (word n g)) n (seen-same n f g same round) p l,
-        step-same (seen round (word n f)) (seen round (word n g)) n (seen-same n f g same round) p l,
-      )
-  move-same Call.turn-back p l =
-      rw (
-        isFirst-same (seen round (word n f)) (seen round (word n g)) n (seen-same n f g same round) p (omega arith),
-        back-same (seen round (word n f)) (seen round (word n g)) n (seen-same n f g same round) p l,
-      )
+  move-same Call.turn p l = ap suc (step-same (seen round (word n f)) (seen round (word n g)) n (seen-same n f g same round) p l)
+  move-same Call.turn-back p l = ap suc (back-same (seen round (word n f)) (seen round (word n g)) n (seen-same n f g same round) p l)
   move-same Call.along p l = ap suc (step-same (seen square (word n f)) (seen square (word n g)) n (seen-same n f g same square) p l)
   move-same Call.point p l = number-same (seen round (word n f)) (seen round (word n g)) n (seen-same n f g same round) p (omega arith)
   move-same Call.area p l = number-same (seen square (word n f)) (seen square (word n g)) n (seen-same n f g same square) p (omega arith)
+
+  sign-same : (c : Call) (p : ℕ) → p < n → signIn (word n f) c p ≡ signIn (word n g) c p
+  unfolding signIn
+  sign-same Call.cross p l = refl
+  sign-same Call.turn p l = isLast-same (seen round (word n f)) (seen round (word n g)) n (seen-same n f g same round) p l
+  sign-same Call.turn-back p l = isFirst-same (seen round (word n f)) (seen round (word n g)) n (seen-same n f g same round) p (omega arith)
+  sign-same Call.along p l = refl
+  sign-same Call.point p l = refl
+  sign-same Call.area p l = refl
 
   call-same : (c : Call) (i : ℕ) → atPlace (word n f) c i ≡ atPlace (word n g) c i
   unfolding atPlace
@@ -61,10 +62,11 @@ module _ (n : ℕ) (f g : ℕ → Letter) (same : (p : ℕ) → p < n → f p �
         | inl e ↦
             let low : 0 < i = ltb-true 0 i (both-left (ltb 0 i) (leb i n) e) in
             let high : i ≤ n = leb-true i n (both-right (ltb 0 i) (leb i n) e) in
-            ap (λ x. pick t (answer x) (refused 13)) (move-same c (pred i) (omega arith))
+            ap₂ (λ (x : ℕ) (y : Bool). pick t (answer (record { value = x; sign = y })) (refused 13))
+            (move-same c (pred i) (omega arith)) (sign-same c (pred i) (omega arith))
         | inr e ↦
-            pick-no t (answer (moveIn (word n f) c (pred i))) (refused 13) e
-            ∙ sym (pick-no t (answer (moveIn (word n g) c (pred i))) (refused 13) e)
+            pick-no t (answer (replyIn (word n f) c (pred i))) (refused 13) e
+            ∙ sym (pick-no t (answer (replyIn (word n g) c (pred i))) (refused 13) e)
       ]
 
   first-alike : (c : Kind) (k : ℕ) → firstIn (word n f) c k ≡ firstIn (word n g) c k

@@ -1,24 +1,24 @@
--- Points and areas on the packed bytes: one number for one cell, where turns end, and how many there are.
+-- Points and areas on the packed bytes: one number for one cell, where turns go round, and how many there are.
 --
 -- same-number  == two places get one number exactly if the drawing's walk leads from one to the other
--- turn-zero-in == where a turn and a turn back answer 0, on bytes that open
+-- turn-sign-in == where a turn and a turn back have the sign, and where they lead, on bytes that open
 -- cell-counts  == points and areas are m + 2 in all, and the sizes of each add up to 2m
 -- known-numbers == the numbers that the book knows are those that some end has
--- answer-is, at-place, number-range-is == an answer tells its number; the answer at a place; the numbers that the book knows, as a range
+-- number-range-is == the numbers that the book knows, as a range
 -- Assumes nothing.
 use mathlib.Core.Path.{_≡_, refl, sym, ap, ap₂, _∙_}
-use mathlib.Core.Logic.{_≢_, inl, inr, _↔_, Iff·trans}
-use mathlib.Core.Bool.{Bool, true, false, _&&_}
+use mathlib.Core.Logic.{_≢_, inl, inr, _↔_}
+use mathlib.Core.Bool.{Bool, true, false}
 use mathlib.Core.List.{List}
 use Prim.Native.Nat.{ℕ, zero, suc, pred, _+_, _≤_, _<_}
 use native.Mathlib.Omega.{arith}
-use lib.Dec.{eqb, ltb, leb}
-use borrow.Author.Tests.{eqb-true, eq-eqb, lt-ltb, le-leb}
-use Rattle.count.specs.Below.{pick, total}
+use lib.Dec.{eqb}
+use borrow.Author.Tests.{eqb-true, eq-eqb}
+use Rattle.count.specs.Below.{total}
 use Rattle.count.proofs.Decides.{decides-lt, decides-le, decides-both}
 use Rattle.count.proofs.Counts.{count-zero}
-use Rattle.count.proofs.Logic.{true-or-false, true-not-false, both, one-of, either-left, either-right, pick-yes, pick-no}
-use Rattle.answers.specs.Answer.{answer, refused, Kind}
+use Rattle.count.proofs.Logic.{true-or-false, true-not-false, one-of, either-left, either-right, pick-no}
+use Rattle.answers.specs.Answer.{answer, plain, Kind}
 use Rattle.orbits.specs.Cycles.{SameCycle}
 use Rattle.words.specs.Brackets.{Bracket, closes, opens, neither, isOpens, isCloses, Balanced, mate, step, back, number, inner, isFirst, isLast, first, size}
 use Rattle.words.specs.declared.family.Family.{Family}
@@ -26,7 +26,9 @@ use Rattle.words.specs.declared.family.Family.the-variants.{Round as round}
 use Rattle.words.specs.Word.{sameFamily, Word, seen, mateIn}
 use Rattle.words.proofs.Letters.{by-bracket, closes-not-neither}
 use Rattle.words.proofs.Mate.{mate-below, mate-opens, mate-neither}
-use Rattle.words.proofs.Numbers.{openings, number-positive, number-range, number-reached, first-inner}
+use Rattle.words.proofs.Step.{step-below, back-below, step-back, inner-step, inner-back}
+use Rattle.words.proofs.Numbers.{openings, inner-number, number-positive, number-range, number-reached, first-inner}
+use Rattle.words.proofs.Round.{first-step}
 use Rattle.words.proofs.Sizes.{size-sum}
 use Rattle.drawing.specs.Drawing.{Drawing, ends, around, cells, endAt, positionOf}
 use Rattle.drawing.specs.Checks.{PassesSeven}
@@ -34,10 +36,8 @@ use Rattle.drawing.specs.Session.{Call}
 use Rattle.drawing.specs.Book.{endsOn, hasNumber, numberAt}
 use Rattle.format.specs.Bytes.{wordIn}
 use Rattle.format.specs.Open.{openRefusal}
-use Rattle.format.specs.Calls.{familyOfKind, moveIn, mapAnswer, turnOf, turnBackOf, placesIn}
+use Rattle.format.specs.Calls.{familyOfKind, moveIn, signIn, mapAnswer, turnOf, turnBackOf, pointOf, placesIn}
 use Rattle.format.specs.Pack.{wordOf, packedBytes}
-use Rattle.format.proofs.Places.{atPlace}
-use Rattle.format.proofs.Passes.{opened}
 use Rattle.agreement.specs.Toured.{Toured}
 use Rattle.agreement.proofs.Passed.{passes-toured}
 use Rattle.agreement.proofs.Cells.{same-cell, number-agrees, size-agrees}
@@ -46,18 +46,13 @@ use Rattle.agreement.proofs.Nesting.{word-balanced}
 use Rattle.agreement.proofs.Steps.{cellWord}
 use Rattle.agreement.proofs.Book.{numbers-agree, book-call}
 use Rattle.words.proofs.Mates.{mate-own, by-family}
-use Rattle.demands.specs.Statements.{CellCounts, HasNumber, LastPlace, FirstPlace, TurnZero}
-use Rattle.demands.proofs.Answers.{opens-opened, packed-call}
+use Rattle.demands.specs.Statements.{CellCounts, HasNumber, LastPlace, FirstPlace, Turned, TurnSigns}
+use Rattle.demands.proofs.Answers.{packed-call}
+use Rattle.format.proofs.Places.{at-place}
+use Rattle.demands.proofs.Asked.{nested, answer-at, plain-at}
 
-pub answer-is : (a b : ℕ) → answer a ≡ answer b → a ≡ b
+answer-is : (a b : ℕ) → answer a ≡ answer b → a ≡ b
 answer-is a b e = cc
-
--- the answer at a place of the word
-pub at-place : (w : Word) (c : Call) (p : ℕ) → p < w .size → atPlace w c (suc p) ≡ answer (moveIn w c p)
-unfolding atPlace
-at-place w c p l =
-    pick-yes (ltb 0 (suc p) && leb (suc p) (w .size)) (answer (moveIn w c p)) (refused 13)
-    (both (ltb 0 (suc p)) (leb (suc p) (w .size)) (lt-ltb 0 (suc p) (omega arith)) (le-leb (suc p) (w .size) l))
 
 -- the call that asks for the number of a point, of an area
 abbrev pub askOf : Kind → Call
@@ -70,16 +65,16 @@ number-move D Kind.point p = refl
 number-move D Kind.area p = refl
 
 module _ (D : Drawing) (seven : PassesSeven D) (c : Kind) where
-  number-answer : (p : ℕ) → p < ends D → mapAnswer (packedBytes D) (askOf c) (suc p) ≡ answer (number (cellWord D c) p)
+  number-answer : (p : ℕ) → p < ends D → plain (mapAnswer (packedBytes D) (askOf c) (suc p)) ≡ answer (number (cellWord D c) p)
   unfolding wordOf
   number-answer p l =
-      packed-call D seven (askOf c) (suc p)
+      ap plain (packed-call D seven (askOf c) (suc p)
       ∙ book-call (passes-toured D seven) (askOf c) (suc p)
-      ∙ at-place (wordOf D) (askOf c) p l
+      ∙ at-place (wordOf D) (askOf c) (suc p) (omega arith) l)
       ∙ ap answer (number-move D c p)
 
   pub same-number : (p q : ℕ) → p < ends D → q < ends D
-      → (mapAnswer (packedBytes D) (askOf c) (suc p) ≡ mapAnswer (packedBytes D) (askOf c) (suc q))
+      → (plain (mapAnswer (packedBytes D) (askOf c) (suc p)) ≡ plain (mapAnswer (packedBytes D) (askOf c) (suc q)))
       ↔ SameCycle (around D c) (endAt D p) (endAt D q)
   same-number p q lp lq =
       let cell = same-cell (passes-toured D seven) c p q lp lq in (
@@ -90,11 +85,6 @@ module _ (D : Drawing) (seven : PassesSeven D) (c : Kind) where
 places-are : (D : Drawing) (c : Kind) (k : ℕ) → placesIn (wordOf D) c k ≡ size (cellWord D c) (ends D) k
 unfolding placesIn wordOf
 places-are D c k = refl
-
--- 0 exactly where the test holds, if the other answer is never 0
-zero-test : (t : Bool) (x : ℕ) → (pick t 0 (suc x) ≡ 0) ↔ (t ≡ true)
-zero-test true x = (λ e. refl, λ e. refl)
-zero-test false x = (λ e. absurd (omega arith), λ e. absurd (true-not-false false e refl))
 
 closes-is : (b : Bracket) → (isCloses b ≡ true) ↔ (b ≡ closes)
 closes-is opens = (λ e. absurd (true-not-false false e refl), λ e. let z : false ≡ true = ap isCloses e in z)
@@ -110,7 +100,7 @@ closes-round w p e =
       | inr h ↦ absurd (closes-not-neither e (pick-no (sameFamily round (w .letter p .family)) _ neither (h .1)))
     ]
 
-module _ (w : Word) (nested : (K : Family) → Balanced (seen K w) (w .size)) (p : ℕ) (l : p < w .size) where
+module _ (w : Word) (nests : (K : Family) → Balanced (seen K w) (w .size)) (p : ℕ) (l : p < w .size) where
   abbrev end : ℕ
   end = pred (w .size)
 
@@ -123,9 +113,9 @@ module _ (w : Word) (nested : (K : Family) → Balanced (seen K w) (w .size)) (p
 
   last-else : seen round w end ≢ closes → mate (seen round w) (w .size) end ≡ end
   last-else n =
-      let below : mate (seen round w) (w .size) end < w .size = mate-below (seen round w) (w .size) (nested round) end end-below in
+      let below : mate (seen round w) (w .size) end < w .size = mate-below (seen round w) (w .size) (nests round) end end-below in
       by-bracket (seen round w end)
-      (λ o. let after : pred (w .size) < mate (seen round w) (w .size) end = mate-opens (seen round w) (w .size) (nested round) end end-below o .0 in absurd (omega arith))
+      (λ o. let after : pred (w .size) < mate (seen round w) (w .size) end = mate-opens (seen round w) (w .size) (nests round) end end-below o .0 in absurd (omega arith))
       (λ c. absurd (n c))
       (λ x. mate-neither (seen round w) (w .size) end x)
 
@@ -163,27 +153,59 @@ module _ (w : Word) (nested : (K : Family) → Balanced (seen K w) (w .size)) (p
       let e : first (seen round w) (w .size) (number (seen round w) p) ≡ inner (seen round w) p = first-inner (seen round w) (w .size) p l in
       (λ t. e ∙ eqb-true (inner (seen round w) p) p t, λ f. eq-eqb (inner (seen round w) p) p (sym e ∙ f))
 
--- the answer of a call, on bytes that open
-module _ (s : List ℕ) (passes : openRefusal s ≡ 0) (nested : (K : Family) → Balanced (seen K (wordIn s)) (wordIn s .size)) where
-  answer-at : (c : Call) (p : ℕ) → p < wordIn s .size → mapAnswer s c (suc p) ≡ answer (moveIn (wordIn s) c p)
-  unfolding mapAnswer opened atPlace
-  answer-at c p l = opens-opened s (atPlace (wordIn s) c (suc p)) passes ∙ at-place (wordIn s) c p l
+-- 02, 8/14: "no other turn has the sign"
+module _ (s : List ℕ) (o : openRefusal s ≡ 0) (p : ℕ) (l : p < wordIn s .size) where
+  abbrev w : Word
+  w = wordIn s
 
-  -- an answer is 0 exactly if the move is
-  answer-zero : (c : Call) (p : ℕ) → p < wordIn s .size → (mapAnswer s c (suc p) ≡ answer 0) ↔ (moveIn (wordIn s) c p ≡ 0)
-  answer-zero c p l =
-      (λ e. answer-is (moveIn (wordIn s) c p) 0 (sym (answer-at c p l) ∙ e), λ z. answer-at c p l ∙ ap answer z)
+  abbrev b : ℕ → Bracket
+  b = seen round w
 
-  pub turn-zero-in : (p : ℕ) → p < wordIn s .size → TurnZero s p
-  unfolding turnOf turnBackOf moveIn
-  turn-zero-in p l =
-      let w : Word = wordIn s in
+  bal : Balanced b (w .size)
+  bal = nested s o round
+
+  -- places with one innermost open bracket are of one point
+  one-point : (q : ℕ) → q < w .size → inner b q ≡ inner b p → pointOf s (suc q) ≡ pointOf s (suc p)
+  unfolding pointOf moveIn
+  one-point q k e = plain-at s o Call.point q k ∙ ap answer (inner-number b q p e) ∙ sym (plain-at s o Call.point p l)
+
+  -- a test that is another's
+  as-test : (t u : Bool) → t ≡ u → {P : Type 0} → (u ≡ true) ↔ P → (t ≡ true) ↔ P
+  as-test t u e h = (λ y. h .0 (sym e ∙ y), λ x. e ∙ h .1 x)
+
+  turned : Turned turnOf LastPlace FirstPlace s p
+  unfolding turnOf moveIn signIn
+  turned =
+      let q : ℕ = step b (w .size) p in
+      let k : q < w .size = step-below b (w .size) bal p l in
       record {
-        turn = Iff·trans (answer-zero Call.turn p l)
-            (Iff·trans (zero-test (isLast (seen round w) (w .size) p) (step (seen round w) (w .size) p)) (last-is w nested p l));
-        turn-back = Iff·trans (answer-zero Call.turn-back p l)
-            (Iff·trans (zero-test (isFirst (seen round w) p) (back (seen round w) (w .size) p)) (first-is-lowest w nested p l));
+        to = q;
+        sign = isLast b (w .size) p;
+        answers = answer-at s o Call.turn p l;
+        below = k;
+        leaves = last-is w (nested s o) p l;
+        arrives = as-test (isLast b (w .size) p) (isFirst b q) (sym (first-step b (w .size) bal p l)) (first-is-lowest w (nested s o) q k);
+        keeps = one-point q k (inner-step b (w .size) bal p l);
       }
+
+  turned-back : Turned turnBackOf FirstPlace LastPlace s p
+  unfolding turnBackOf moveIn signIn
+  turned-back =
+      let q : ℕ = back b (w .size) p in
+      let k : q < w .size = back-below b (w .size) bal p l in
+      let e : isFirst b p ≡ isLast b (w .size) q = ap (isFirst b) (sym (step-back b (w .size) bal p l)) ∙ first-step b (w .size) bal q k in
+      record {
+        to = q;
+        sign = isFirst b p;
+        answers = answer-at s o Call.turn-back p l;
+        below = k;
+        leaves = first-is-lowest w (nested s o) p l;
+        arrives = as-test (isFirst b p) (isLast b (w .size) q) e (last-is w (nested s o) q k);
+        keeps = one-point q k (inner-back b (w .size) bal p l);
+      }
+
+  pub turn-sign-in : TurnSigns s p
+  turn-sign-in = record { turn = turned; turn-back = turned-back }
 
 total-same : (f g : ℕ → ℕ) (v : ℕ) → ((k : ℕ) → f k ≡ g k) → total f v ≡ total g v
 unfolding total

@@ -8,12 +8,12 @@
 --                   byte string that opens unpacks to a drawing that packs to the same bytes, and unpacking what packing wrote
 --                   gives the drawing renumbered. Its parts are demand-2-pack and demand-2-round-trip.
 -- demand-3       == whatever packing answers agrees with the drawing's book: every session, every answer about point and area
---                   numbers, every factor of an area, one number for one point (area), where turns end, how many points and
+--                   numbers, every factor of an area, one number for one point (area), where turns go round, how many points and
 --                   areas there are, that the card's count is theirs, which numbers they have, and the printed schedule
 -- every-map      == the same of every byte string that opens, with the book of its unpacked drawing
 -- unpacked-agrees == the same of every byte string that opens and whatever unpacking it answers
 -- packed-agrees  == the same of the bytes of a drawing that passes 1 to 7. Its parts are demand-3-sessions, demand-3-numbers,
---                   demand-3-factors, same-point, same-area, turn-zero, areas-count, written-count, has-number and schedule-book.
+--                   demand-3-factors, same-point, same-area, turn-sign, areas-count, written-count, has-number and schedule-book.
 -- factor-agrees  == whatever packing answers gives every area the book's factor, for every pair of lists: demand 3's part of 02, 4/14
 -- Assumes nothing.
 use mathlib.Core.Path.{_≡_, refl, sym, ap, _∙_, subst}
@@ -48,7 +48,7 @@ use Rattle.format.proofs.Refusals.{pack-accepts, pack-crosses}
 pub use Rattle.format.proofs.Passes.{open-refusals}
 pub use Rattle.format.proofs.Refusals.{pack-refusals}
 pub use Rattle.format.proofs.OneForm.{one-form}
-use Rattle.format.proofs.Decode.{passes-nested, opens-encode}
+use Rattle.format.proofs.Decode.{opens-encode}
 use Rattle.format.proofs.Encode.{fits-lengths}
 use Rattle.format.proofs.Parts.{map-length}
 use Rattle.format.proofs.Longest.{map-length-most}
@@ -61,11 +61,11 @@ use Rattle.roundtrip.proofs.Passes.{drawing-passes}
 use Rattle.roundtrip.proofs.Words.{drawing-bytes}
 use Rattle.roundtrip.proofs.Renumbered.{unpacked-renumbered}
 use Rattle.demands.specs.Statements.{turanBytes, Exact, leftIn, RoundTrip, RoundTrips, Demand2}
-use Rattle.demands.specs.Statements.{Sessions, Numbers, Factors, SameCell, TurnZero, CellCounts, HasNumber, Agrees}
+use Rattle.demands.specs.Statements.{Sessions, Numbers, Factors, SameCell, TurnSigns, CellCounts, HasNumber, Agrees}
 use Rattle.demands.proofs.Faithful.{passes-faithful, packed-alike}
 use Rattle.demands.proofs.Answers.{opens-opened, packed-call, packed-first, packed-size-of, packed-neighbours, packed-factor, packed-joining}
 use Rattle.demands.proofs.AlikeDrawings.{alike-drawing}
-use Rattle.demands.proofs.Cells.{same-number, turn-zero-in, cell-counts, known-numbers}
+use Rattle.demands.proofs.Cells.{same-number, turn-sign-in, cell-counts, known-numbers}
 use Rattle.demands.proofs.Turan.{turan-packed}
 use Rattle.demands.proofs.Schedule.{schedule-book}
 
@@ -218,9 +218,9 @@ demand-2-round-trip =
 pub demand-2 : Demand2
 demand-2 = record { exact = demand-2-pack; trips = demand-2-round-trip }
 
-pub turn-zero : (s : List ℕ) → openRefusal s ≡ 0 → (p : ℕ) → p < 2 * sizeIn s .m → TurnZero s p
+pub turn-sign : (s : List ℕ) → openRefusal s ≡ 0 → (p : ℕ) → p < 2 * sizeIn s .m → TurnSigns s p
 unfolding wordIn
-turn-zero s passes p l = turn-zero-in s passes (passes-nested s (opens-passes s passes)) p l
+turn-sign s passes p l = turn-sign-in s passes p l
 
 -- the bytes of a drawing that passes 1 to 7
 module _ (D : Drawing) (seven : PassesSeven D) where
@@ -254,9 +254,9 @@ module _ (D : Drawing) (seven : PassesSeven D) where
   unfolding areaOf
   same-area = record { same = same-number D seven Kind.area }
 
-  packed-zero : (p : ℕ) → p < ends D → TurnZero (packedBytes D) p
+  packed-sign : (p : ℕ) → p < ends D → TurnSigns (packedBytes D) p
   unfolding ends
-  packed-zero p l = turn-zero (packedBytes D) (packed-opens D seven) p (omega (arith, ap (λ (z : Size). z .m) (packed-size D seven)))
+  packed-sign p l = turn-sign (packedBytes D) (packed-opens D seven) p (omega (arith, ap (λ (z : Size). z .m) (packed-size D seven)))
 
   pub areas-count : CellCounts D
   areas-count = cell-counts (passes-toured D seven)
@@ -284,7 +284,7 @@ module _ (D : Drawing) (seven : PassesSeven D) where
         factors = demand-3-factors;
         points = same-point;
         areas = same-area;
-        zeros = packed-zero;
+        signs = packed-sign;
         counts = areas-count;
         known = has-number;
         schedule = schedule-book D (packedBytes D) (packed-opens D seven) packed-open-of demand-3-numbers areas-count;

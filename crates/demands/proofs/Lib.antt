@@ -6,8 +6,10 @@ pub mod Faithful
 pub mod Answers
 pub mod Turan
 pub mod OneCall
+pub mod Asked
 pub mod Cells
 pub mod Schedule
 pub mod Demands
 pub mod Neighbours
 pub mod Suggested
+pub mod Round

@@ -5,42 +5,38 @@
 --                      the area part nothing, and on the empty map
 -- Assumes nothing.
 use mathlib.Core.Path.{_≡_, refl, sym, ap, _∙_}
-use mathlib.Core.Logic.{_↔_, inl, inr}
+use mathlib.Core.Logic.{_↔_}
 use mathlib.Core.Bool.{Bool, true, false, not, _&&_}
-use mathlib.Core.List.{List, []}
+use mathlib.Core.List.{List}
 use Prim.Native.Nat.{ℕ, suc, pred, _*_, _≤_, _<_}
 use native.Mathlib.Omega.{arith}
-use lib.Dec.{eqb, ltb, leb}
-use borrow.Author.Tests.{ltb-true, leb-true}
+use lib.Dec.{eqb}
 use Rattle.count.specs.Below.{Decides, pick, count}
-use Rattle.count.proofs.Logic.{true-or-false, both-left, both-right, bool-same, pick-yes, pick-no}
+use Rattle.count.proofs.Logic.{bool-same, pick-yes}
 use Rattle.count.proofs.Decides.{decides-lt, decides-le, decides-both}
 use Rattle.count.proofs.Counts.{count-same}
-use Rattle.answers.specs.Answer.{Answer, answer, refusedWith, refused, numberOf, Kind}
+use Rattle.answers.specs.Answer.{Answer, answer, refused, numberOf, Kind}
 use Rattle.drawing.specs.Neighbours.{Across, isAcross, neighbours}
 use Rattle.drawing.proofs.Neighbours.{across-is, across-mutual, neighbours-most, neighbours-none}
 use Rattle.drawing.specs.Drawing.{Drawing, borders, ends, other, cells}
 use Rattle.drawing.specs.Session.{Call}
 use Rattle.drawing.specs.Book.{numberAt, hasNumber, endsOn, bookSize, bookNeighbours}
 use Rattle.drawing.proofs.Ends.{other-other, other-end}
-use Rattle.answers.proofs.Steps.{checked-answers}
-use Rattle.words.specs.Brackets.{Balanced, number, size}
-use Rattle.words.specs.declared.family.Family.{Family}
+use Rattle.words.specs.Brackets.{number, size}
 use Rattle.words.specs.declared.family.Family.the-variants.{Square as square}
 use Rattle.words.specs.Word.{seen, mateIn}
 use Rattle.words.proofs.Mates.{mate-in-below, mate-in-involutive}
 use Rattle.format.specs.Bytes.{sizeIn, wordIn}
-use Rattle.format.specs.Open.{openChecks, openRefusal}
-use Rattle.format.specs.Calls.{moveIn, mapAnswer, crossOf, areaOf, cellsIn, isNumber, placesIn, sizeOf, neighboursIn, neighboursOf}
-use Rattle.format.proofs.Decode.{passes-nested}
+use Rattle.format.specs.Open.{openRefusal}
+use Rattle.format.specs.Calls.{moveIn, crossOf, areaOf, cellsIn, isNumber, placesIn, sizeOf, neighboursIn, neighboursOf}
 use Rattle.format.proofs.Openings.{cells-numbers, number-cells}
-use Rattle.format.proofs.Passes.{opens-passes, opened}
-use Rattle.format.proofs.Places.{atPlace}
+use Rattle.format.proofs.Passes.{opened}
 use Rattle.agreement.specs.Toured.{Toured}
 use Rattle.agreement.proofs.Counts.{cells-agree}
 use Rattle.agreement.proofs.Passed.{passes-toured}
 use Rattle.demands.proofs.Answers.{opens-opened}
-use Rattle.demands.proofs.Cells.{answer-is, at-place, number-range-is, known-numbers}
+use Rattle.demands.proofs.Asked.{nested, plain-at, asked-plain}
+use Rattle.demands.proofs.Cells.{number-range-is, known-numbers}
 use Rattle.demands.proofs.Demands.{demand-2-pack}
 use Rattle.demands.specs.Neighbours.{MapAcross, BookAcross, NeighboursMutual, NeighbourCounts, NeighboursSides}
 
@@ -97,10 +93,6 @@ module _ (area cross : ℕ → ℕ) (n m v : ℕ) (range : (p : ℕ) → p < n �
       }
 
 -- ---- the map
--- what a call that answers tells
-refused-not : {A : Type 0} (k : ℕ) (xs : List ℕ) (x : A) → refusedWith k xs ≡ answer x → ⊥
-refused-not k xs x e = let z : _≡_ {A = ℕ} 0 1 = cc in omega arith
-
 module _ (s : List ℕ) where
   abbrev area : ℕ → ℕ
   area = number (seen square (wordIn s))
@@ -108,61 +100,29 @@ module _ (s : List ℕ) where
   abbrev crosses : ℕ → ℕ
   crosses = mateIn (wordIn s)
 
-  asked-opens : (c : Call) (i x : ℕ) → mapAnswer s c i ≡ answer x → openRefusal s ≡ 0
-  unfolding mapAnswer atPlace openRefusal
-  asked-opens c i x e = checked-answers (openChecks s) (atPlace (wordIn s) c i) x e .0
-
-  asked-place : (c : Call) (i x : ℕ) → mapAnswer s c i ≡ answer x → atPlace (wordIn s) c i ≡ answer x
-  unfolding mapAnswer atPlace
-  asked-place c i x e = checked-answers (openChecks s) (atPlace (wordIn s) c i) x e .1
-
-  placed : (c : Call) (i x : ℕ) → atPlace (wordIn s) c i ≡ answer x → (suc (pred i) ≡ i) × (pred i < wordIn s .size)
-  unfolding atPlace
-  placed c i x e =
-      let t : Bool = ltb 0 i && leb i (wordIn s .size) in
-      elim (true-or-false t) [
-        | inl y ↦
-            let low : 0 < i = ltb-true 0 i (both-left (ltb 0 i) (leb i (wordIn s .size)) y) in
-            let high : i ≤ wordIn s .size = leb-true i (wordIn s .size) (both-right (ltb 0 i) (leb i (wordIn s .size)) y) in
-            (omega arith, omega arith)
-        | inr f ↦ absurd (refused-not 13 [] x (sym (pick-no t (answer (moveIn (wordIn s) c (pred i))) (refused 13) f) ∙ e))
-      ]
-
-  -- the answer at a place is the word's
-  asked-is : (c : Call) (i x : ℕ) → mapAnswer s c i ≡ answer x → moveIn (wordIn s) c (pred i) ≡ x
-  asked-is c i x e =
-      let a = asked-place c i x e in
-      let r = placed c i x a in
-      answer-is (moveIn (wordIn s) c (pred i)) x
-      (sym (at-place (wordIn s) c (pred i) (r .1)) ∙ ap (atPlace (wordIn s) c) (r .0) ∙ a)
-
   area-opens : (i k : ℕ) → areaOf s i ≡ answer k → openRefusal s ≡ 0
   unfolding areaOf
-  area-opens i k e = asked-opens Call.area i k e
+  area-opens i k e = asked-plain s Call.area i k e .0 .opens
 
   area-asked : (i k : ℕ) → areaOf s i ≡ answer k → (pred i < wordIn s .size) × (area (pred i) ≡ k)
   unfolding areaOf moveIn
-  area-asked i k e = (placed Call.area i k (asked-place Call.area i k e) .1, asked-is Call.area i k e)
+  area-asked i k e = let a = asked-plain s Call.area i k e in (a .0 .below, a .1)
 
   cross-asked : (i q : ℕ) → crossOf s i ≡ answer q → suc (crosses (pred i)) ≡ q
   unfolding crossOf moveIn
-  cross-asked i q e = asked-is Call.cross i q e
+  cross-asked i q e = asked-plain s Call.cross i q e .1
 
   module _ (o : openRefusal s ≡ 0) where
     area-answers : (p : ℕ) → p < wordIn s .size → areaOf s (suc p) ≡ answer (area p)
-    unfolding areaOf mapAnswer opened atPlace moveIn
-    area-answers p l = opens-opened s (atPlace (wordIn s) Call.area (suc p)) o ∙ at-place (wordIn s) Call.area p l
+    unfolding areaOf moveIn
+    area-answers p l = plain-at s o Call.area p l
 
     cross-answers : (p : ℕ) → p < wordIn s .size → crossOf s (suc p) ≡ answer (suc (crosses p))
-    unfolding crossOf mapAnswer opened atPlace moveIn
-    cross-answers p l = opens-opened s (atPlace (wordIn s) Call.cross (suc p)) o ∙ at-place (wordIn s) Call.cross p l
-
-    nested : (K : Family) → Balanced (seen K (wordIn s)) (wordIn s .size)
-    unfolding wordIn
-    nested = passes-nested s (opens-passes s o)
+    unfolding crossOf moveIn
+    cross-answers p l = plain-at s o Call.cross p l
 
     crosses-back : (p : ℕ) → p < wordIn s .size → (crosses p < wordIn s .size) × (crosses (crosses p) ≡ p)
-    crosses-back p l = (mate-in-below (wordIn s) nested p l, mate-in-involutive (wordIn s) nested p l)
+    crosses-back p l = (mate-in-below (wordIn s) (nested s o) p l, mate-in-involutive (wordIn s) (nested s o) p l)
 
     map-across : (k j : ℕ) → MapAcross s k j ↔ Across area crosses (wordIn s .size) k j
     map-across k j = (

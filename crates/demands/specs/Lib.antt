@@ -3,3 +3,4 @@ pub mod Statements
 pub mod Neighbours
 pub mod Suggested
 pub mod Rehearsal
+pub mod Round

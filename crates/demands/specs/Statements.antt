@@ -12,7 +12,9 @@
 -- Factors D s         == demand 3: the factor of every area of s is the book's, whatever the two lists lent are
 -- SameCell D s c ask  == two places of the map s get one number from `ask` exactly if they are of one point (area)
 -- LastPlace w p, FirstPlace w p == position p is the last, the first of its point, in document 01's words
--- TurnZero s p        == where a turn and a turn back answer 0
+-- Turned ask From To s p == where the turn `ask` leads from position p of the map s: about the same point, and with the sign exactly from a
+--                        `From`, exactly to a `To`
+-- TurnSigns s p       == that of a turn, from the last place of a point to its first, and of a turn back
 -- CellCounts D        == there are n points and m - n + 2 areas, and the sizes of each add up to 2m
 -- HasNumber D c       == the numbers that the book knows are those that some end has
 -- Agrees D s          == the whole of demand 3, of the drawing D and the map s, and of its printed schedule
@@ -26,7 +28,7 @@ use lib.Ieee.{Float}
 use lib.ListN.{length, take}
 use Rattle.count.specs.Below.{table, gather, total}
 use Rattle.answers.specs.Lent.{laid, leaves}
-use Rattle.answers.specs.Answer.{Answer, answer, refusedWith, numberOf, Kind}
+use Rattle.answers.specs.Answer.{Answer, answer, refusedWith, numberOf, Reply, Kind}
 use Rattle.orbits.specs.Cycles.{SameCycle}
 use Rattle.words.specs.Brackets.{closes, first, number}
 use Rattle.words.specs.declared.family.Family.the-variants.{Round as round}
@@ -104,7 +106,7 @@ pub record Demand2 : Type 0 where
   pub exact : (D : Drawing) (work out : ℕ) → Exact D work out
   pub trips : RoundTrips
 
--- Demand 3: "every first number and every list of calls"
+-- Demand 3: "every first number and every list of calls". 02, 8/14: an answer is a number with its sign, and "The book does the same"
 pub record Sessions (D : Drawing) (s : List ℕ) : Type 0 where
   pub same : (i : ℕ) (calls : List Call) → mapSession s i calls ≡ bookSession D i calls
 
@@ -138,10 +140,20 @@ LastPlace w p =
 abbrev pub FirstPlace : Word → ℕ → Type 0
 FirstPlace w p = first (seen round w) (w .size) (number (seen round w) p) ≡ p
 
--- 01, Moves: a turn "is 0 at the point's last place", a turn back "is 0 at the point's first place"
-pub record TurnZero (s : List ℕ) (p : ℕ) : Type 0 where
-  pub turn : (turnOf s (suc p) ≡ answer 0) ↔ LastPlace (wordIn s) p
-  pub turn-back : (turnBackOf s (suc p) ≡ answer 0) ↔ FirstPlace (wordIn s) p
+-- 02, 8/14: a turn with "a sign that it has gone round"; "no other turn has the sign". Every turn stays about its point.
+pub record Turned (ask : List ℕ → ℕ → Answer Reply) (From To : Word → ℕ → Type 0) (s : List ℕ) (p : ℕ) : Type 0 where
+  pub to : ℕ
+  pub sign : Bool
+  pub answers : ask s (suc p) ≡ answer (record { value = suc to; sign = sign })
+  pub below : to < wordIn s .size
+  pub leaves : (sign ≡ true) ↔ From (wordIn s) p
+  pub arrives : (sign ≡ true) ↔ To (wordIn s) to
+  pub keeps : pointOf s (suc to) ≡ pointOf s (suc p)
+
+-- 02, 8/14: "Turn at a point's last place now answers its first place, and turn back at the first answers the last"
+pub record TurnSigns (s : List ℕ) (p : ℕ) : Type 0 where
+  pub turn : Turned turnOf LastPlace FirstPlace s p
+  pub turn-back : Turned turnBackOf FirstPlace LastPlace s p
 
 -- 01: "There are m-n+2 areas"; 02, 1/14: "That the sum is 2m"
 pub record CellCounts (D : Drawing) : Type 0 where
@@ -157,8 +169,8 @@ pub record HasNumber (D : Drawing) (c : Kind) : Type 0 where
 -- Demand 3, whole. 01: "Demand 3 is one statement about the whole list"; it "covers counts and searches". The map s is a
 -- byte string that opens, with the drawing's m and n; the count in its header is the number of the drawing's area walks
 -- (02, 6/14: "Card makers want to read the number of areas without arithmetic"). With the answers of document 01 go the
--- factors of document 02, 4/14. Beside them stands what document 01 says of the numbers and of the zeros among them, and the
--- printed schedule of document 02, 1/14: it is made of the book's numbers.
+-- factors of document 02, 4/14. Beside them stands what document 01 says of the numbers, what document 02, 8/14, says of the
+-- turns' signs, and the printed schedule of document 02, 1/14: it is made of the book's numbers.
 pub record Agrees (D : Drawing) (s : List ℕ) : Type 0 where
   pub opens : Opens s
   pub size : openOf s ≡ answer (sizeFor D)
@@ -168,7 +180,7 @@ pub record Agrees (D : Drawing) (s : List ℕ) : Type 0 where
   pub factors : Factors D s
   pub points : SameCell D s Kind.point pointOf
   pub areas : SameCell D s Kind.area areaOf
-  pub zeros : (p : ℕ) → p < ends D → TurnZero s p
+  pub signs : (p : ℕ) → p < ends D → TurnSigns s p
   pub counts : CellCounts D
   pub known : (c : Kind) → HasNumber D c
   pub schedule : scheduleOf s ≡ scheduleText (bookRows D)

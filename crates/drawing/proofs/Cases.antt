@@ -8,7 +8,7 @@ use Prim.Native.Nat.{ℕ, zero, suc, _<_, _≤_}
 use native.Mathlib.Omega.{arith}
 use lib.ListN.{getD}
 use Rattle.count.specs.Below.{count}
-use Rattle.answers.specs.Answer.{answer}
+use Rattle.answers.specs.Answer.{answer, unsigned}
 use Rattle.drawing.specs.Drawing.{Drawing, borders, ends, border, other, marked, cells, positionOf}
 use Rattle.drawing.specs.Checks.{inRange, Linked, joined, connected, fewMarks, crosses, firstCrossing}
 use Rattle.drawing.specs.Tree.{SuggestedTree}
@@ -76,7 +76,13 @@ pub record Cases : Type 0 where
   pub smaller-first : firstCrossing (row (5 ∷ 2 ∷ 3 ∷ 4 ∷ 0 ∷ 1 ∷ []) 4) ≡ 0 ∷ 2 ∷ []
   -- a cross goes there, and the next one comes back; asking for the area leaves the place
   pub session-moves : bookSession nested 1 (Call.cross ∷ Call.area ∷ Call.cross ∷ [])
-      ≡ record { answers = answer 4 ∷ answer 2 ∷ answer 1 ∷ []; place = 1 }
+      ≡ record { answers = answer (unsigned 4) ∷ answer (unsigned 2) ∷ answer (unsigned 1) ∷ []; place = 1 }
+  -- 02, 8/14: the point's last place is 4; a turn there answers 1 with the sign, and turning back from 1 answers 4 with it
+  pub turns-round : bookSession nested 2 (Call.turn ∷ Call.turn ∷ Call.turn ∷ Call.turn-back ∷ [])
+      ≡ record {
+        answers = answer (unsigned 3) ∷ answer (unsigned 4) ∷ answer (record { value = 1; sign = true }) ∷ answer (record { value = 4; sign = true }) ∷ [];
+        place = 4;
+      }
   -- area 2 lies between the two loops: from its first place on, the inner one is crossed first
   pub in-walk-order : bookLandings nested 2 ≡ 3 ∷ 1 ∷ []
   -- an unmarked border joins nothing
@@ -104,6 +110,7 @@ cases =
       by-second-a = refl;
       smaller-first = refl;
       session-moves = refl;
+      turns-round = refl;
       in-walk-order = refl;
       not-joined = refl;
       one-piece = refl;

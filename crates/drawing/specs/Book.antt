@@ -5,6 +5,9 @@
 -- isLowest D c h     == whether h's own position is that
 -- numberAt D c h     == the number of h's point (area): 1 for the one with the lowest place, and so on upwards
 -- entryTo D h        == the end whose entry is h
+-- answerAt D c h     == the number that the book answers to the call c at end h
+-- signAt D c h       == whether the call c goes round the point at end h
+-- replyAt D c h      == both
 -- bookAnswer D c i   == the book's answer to the call c at place i
 -- bookSession D i cs == a session on the book
 -- hasNumber D c k    == whether k is one of the numbers 1 to the number of points (areas)
@@ -18,7 +21,7 @@ use mathlib.Core.List.{List}
 use Prim.Native.Nat.{ℕ, zero, suc, pred}
 use lib.Dec.{eqb, ltb, leb}
 use Rattle.count.specs.Below.{pick, find, count}
-use Rattle.answers.specs.Answer.{Answer, answer, refused, Kind, noSuch}
+use Rattle.answers.specs.Answer.{Answer, answer, refused, Reply, Kind, noSuch}
 use Rattle.drawing.specs.Drawing.{Drawing, borders, ends, other, turn, around, cellOf, cells, endAt, positionOf}
 use Rattle.drawing.specs.Neighbours.{neighbours, landings}
 use Rattle.drawing.specs.Session.{Call, Outcome, session}
@@ -46,22 +49,37 @@ unfoldable pub entryTo : Drawing → ℕ → ℕ
 unfolding find turn ends
 entryTo D h = find (λ g. eqb (turn D g) h) (ends D)
 
--- 01: "Cross answers the place of h's other end. Turn answers the place of h's entry, or 0 if that is the lowest place
--- about the point. Turn back answers the place of the end whose entry is h, or 0 if h's own place is the lowest about the
--- point. Along answers the place of the entry of h's other end."
+-- 01: "Cross answers the place of h's other end. Turn answers the place of h's entry"; "Turn back answers the place of the end
+-- whose entry is h"; "Along answers the place of the entry of h's other end." 02, 8/14: the turns do so at every end, and "what
+-- was said of a turn's 0 ends here"
 unfoldable pub answerAt : Drawing → Call → ℕ → ℕ
-unfolding placeOf other turn isLowest entryTo around numberAt
+unfolding placeOf other turn entryTo around numberAt
 answerAt D Call.cross h = placeOf D (other h)
-answerAt D Call.turn h = pick (isLowest D Kind.point (turn D h)) 0 (placeOf D (turn D h))
-answerAt D Call.turn-back h = pick (isLowest D Kind.point h) 0 (placeOf D (entryTo D h))
+answerAt D Call.turn h = placeOf D (turn D h)
+answerAt D Call.turn-back h = placeOf D (entryTo D h)
 answerAt D Call.along h = placeOf D (around D Kind.area h)
 answerAt D Call.point h = numberAt D Kind.point h
 answerAt D Call.area h = numberAt D Kind.area h
 
+-- 02, 8/14: "Turn at a point's last place now answers its first place, and turn back at the first answers the last, each with a
+-- sign that it has gone round. The book does the same, and no other turn has the sign." Of a turn the place arrived at is then
+-- the lowest about the point, of a turn back h's own.
+unfoldable pub signAt : Drawing → Call → ℕ → Bool
+unfolding isLowest turn
+signAt D Call.cross h = false
+signAt D Call.turn h = isLowest D Kind.point (turn D h)
+signAt D Call.turn-back h = isLowest D Kind.point h
+signAt D Call.along h = false
+signAt D Call.point h = false
+signAt D Call.area h = false
+
+abbrev pub replyAt : Drawing → Call → ℕ → Reply
+replyAt D c h = record { value = answerAt D c h; sign = signAt D c h }
+
 -- 01: "If the place is not 1 to 2m, every call gets 13 and the place stays. Otherwise h is the end at that place."
-unfoldable pub bookAnswer : Drawing → Call → ℕ → Answer ℕ
-unfolding ends answerAt endAt
-bookAnswer D c i = pick (ltb 0 i && leb i (ends D)) (answer (answerAt D c (endAt D (pred i)))) (refused 13)
+unfoldable pub bookAnswer : Drawing → Call → ℕ → Answer Reply
+unfolding ends answerAt signAt endAt
+bookAnswer D c i = pick (ltb 0 i && leb i (ends D)) (answer (replyAt D c (endAt D (pred i)))) (refused 13)
 
 unfoldable pub bookSession : Drawing → ℕ → List Call → Outcome
 unfolding session bookAnswer

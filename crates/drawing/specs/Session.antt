@@ -10,7 +10,7 @@ use mathlib.Core.Bool.{Bool, true, false}
 use mathlib.Core.List.{List, [], _∷_}
 use Prim.Native.Nat.{ℕ}
 use Rattle.count.specs.Below.{pick}
-use Rattle.answers.specs.Answer.{Answer, answer, refusedWith}
+use Rattle.answers.specs.Answer.{Answer, answer, refusedWith, Reply}
 
 pub data Call : Type 0 where
   cross turn turn-back along point area : Call
@@ -24,16 +24,16 @@ isMove point = false
 isMove area = false
 
 -- 01: of a move "the answer is the new place"; of point and area "the place stays"; refused, "the place stays"
-abbrev pub placeAfter : Call → Answer ℕ → ℕ → ℕ
-placeAfter c (answer q) p = pick (isMove c) q p
+abbrev pub placeAfter : Call → Answer Reply → ℕ → ℕ
+placeAfter c (answer r) p = pick (isMove c) (r .value) p
 placeAfter c (refusedWith k xs) p = p
 
 pub record Outcome : Type 0 where
-  pub answers : List (Answer ℕ)
+  pub answers : List (Answer Reply)
   pub place : ℕ
 
 -- 01: "It is fed a first number, whatever it is, and the names of the calls in order. It holds one number, the place."
-unfoldable pub session : (Call → ℕ → Answer ℕ) → ℕ → List Call → Outcome
+unfoldable pub session : (Call → ℕ → Answer Reply) → ℕ → List Call → Outcome
 session ask p [] = record { answers = []; place = p }
 session ask p (c ∷ cs) =
     let rest : Outcome = session ask (placeAfter c (ask c p) p) cs in

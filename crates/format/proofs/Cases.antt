@@ -1,15 +1,16 @@
--- Two maps and some drawings by computation: in B and B* a 0 opens and a 1 closes, a loop joins its point with itself, 7 carries
--- its pair, in which order finding marks declines, and which cards a box already sold takes. Assumes nothing.
+-- Two maps and some drawings by computation: in B and B* a 0 opens and a 1 closes, a loop joins its point with itself, which turns go
+-- round, 7 carries its pair, in which order finding marks declines, and which cards a box already sold takes. Assumes nothing.
 use mathlib.Core.Path.{_≡_, refl}
 use mathlib.Core.Bool.{true, false}
 use mathlib.Core.List.{List, [], _∷_}
 use Prim.Native.Nat.{ℕ}
-use Rattle.answers.specs.Answer.{answer, refusedWith}
+use Rattle.answers.specs.Answer.{answer, refusedWith, unsigned}
 use Rattle.words.specs.declared.family.Family.the-variants.{Round as round, Square as square}
 use Rattle.drawing.specs.Drawing.{Drawing}
 use Rattle.format.specs.Before.{refusalBefore}
 use Rattle.format.specs.Bytes.{longest, wordIn}
-use Rattle.format.specs.Calls.{joiningOf}
+use Rattle.format.specs.Calls.{turnOf, turnBackOf, joiningOf}
+use Rattle.format.specs.Sessions.{entryOf}
 use Rattle.format.specs.Pack.{packOf}
 use Rattle.format.specs.Suggest.{marksRefusal}
 
@@ -39,6 +40,14 @@ pub record Cases : Type 0 where
   -- the enclave's one border is a loop
   pub enclave-joins : joiningOf enclaveMap 1 1 ≡ answer 1
   pub enclave-closes : wordIn enclaveMap .letter 1 ≡ record { family = square; closing = true }
+  -- 02, 8/14: of the enclave's two places the second is the last; the stub's first is the only one about its point
+  pub enclave-turn : turnOf enclaveMap 1 ≡ answer (unsigned 2)
+  pub enclave-round : turnOf enclaveMap 2 ≡ answer (record { value = 1; sign = true })
+  pub enclave-back : turnBackOf enclaveMap 2 ≡ answer (unsigned 1)
+  pub enclave-round-back : turnBackOf enclaveMap 1 ≡ answer (record { value = 2; sign = true })
+  pub stub-round-back : turnBackOf stubMap 1 ≡ answer (record { value = 1; sign = true })
+  -- in a session's entries the sign is the mask 0x8000
+  pub entry-round : entryOf (record { value = 1; sign = true }) ≡ 0x8001
   pub seven-carries : packOf interlaced 12 longest ≡ refusedWith 7 (0 ∷ 1 ∷ [])
   -- a ring of two borders; two loops on two points; the same with an entry twice, which comes first
   pub ring-found : marksRefusal (two (2 ∷ 3 ∷ 0 ∷ 1 ∷ [])) 12 ≡ 0
@@ -49,7 +58,7 @@ pub record Cases : Type 0 where
   pub stub-now : refusalBefore stubMap ≡ 9
 
 pub cases : Cases
-unfolding wordIn joiningOf packOf marksRefusal refusalBefore
+unfolding wordIn turnOf turnBackOf joiningOf packOf marksRefusal refusalBefore
 cases =
     record {
       stub-opens = refl;
@@ -57,6 +66,12 @@ cases =
       enclave-opens = refl;
       enclave-joins = refl;
       enclave-closes = refl;
+      enclave-turn = refl;
+      enclave-round = refl;
+      enclave-back = refl;
+      enclave-round-back = refl;
+      stub-round-back = refl;
+      entry-round = refl;
       seven-carries = refl;
       ring-found = refl;
       loops-apart = refl;

@@ -16,3 +16,4 @@ pub mod Openings
 pub mod Landings
 pub mod Ranks
 pub mod Small
+pub mod Entries

@@ -22,7 +22,7 @@ use Rattle.words.specs.Word.{seen}
 use Rattle.drawing.specs.Session.{Call}
 use Rattle.format.specs.Bytes.{sizeIn, bitsA, wordIn}
 use Rattle.format.specs.Open.{openChecks}
-use Rattle.format.specs.Calls.{moveIn, placeChecks, mapAnswer, mapSession, cellsIn, isNumber, numberCheck, cellChecks, firstIn, firstOf, placesIn, sizeOf, neighboursIn, neighboursOf}
+use Rattle.format.specs.Calls.{replyIn, placeChecks, mapAnswer, mapSession, cellsIn, isNumber, numberCheck, cellChecks, firstIn, firstOf, placesIn, sizeOf, neighboursIn, neighboursOf}
 use Rattle.format.specs.Calls.{joinIn, joinChecks, joiningOf}
 use Rattle.format.specs.Sessions.{callsOf, areCalls, runChecks, ranOf}
 use Rattle.format.specs.Pack.{drawingOf, unpackChecks, unpackOf}
@@ -45,9 +45,9 @@ module _ (s : List ℕ) where
   cell-decided c k =
       decided-append (openChecks s) (numberCheck (sizeIn s) c k ∷ []) (open-decided s) (λ _. (number-decides (sizeIn s) c k, λ _. tt))
 
-  pub place-refusals : (c : Call) (i : ℕ) → InOrder (placeChecks s i) (moveIn (wordIn s) c (pred i)) (mapAnswer s c i)
+  pub place-refusals : (c : Call) (i : ℕ) → InOrder (placeChecks s i) (replyIn (wordIn s) c (pred i)) (mapAnswer s c i)
   unfolding mapAnswer
-  place-refusals c i = in-order (placeChecks s i) (moveIn (wordIn s) c (pred i)) (place-decided i)
+  place-refusals c i = in-order (placeChecks s i) (replyIn (wordIn s) c (pred i)) (place-decided i)
 
   pub first-refusals : (c : Kind) (k : ℕ) → InOrder (cellChecks s c k) (firstIn (wordIn s) c k) (firstOf s c k)
   unfolding firstOf

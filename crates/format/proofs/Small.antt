@@ -2,14 +2,16 @@
 --
 -- mate-most, step-most, back-most, number-most == partners, steps and numbers go little beyond the word
 -- move-most, first-most, size-most, join-most == so do the answers of the calls
+-- own-all     == what holds of every refusal, and of an answer where the checks pass, holds of what comes out
 -- own-small   == an answer is small if it is where the checks pass
--- move-small, first-small, size-small, neighbours-small, joining-small == every answer of a call is below 65,536
+-- move-small  == every number that a call of a session answers is below 32,768, so that bit 15 is left for a sign
+-- first-small, size-small, neighbours-small, joining-small == every answer of a call is below 65,536
 -- cross-fits, turn-fits, turn-back-fits, along-fits, point-fits, area-fits, first-fits, size-fits, neighbours-fit, joining-fits
 --             == so is an answer that equals one
 -- Assumes nothing.
 use mathlib.Core.Path.{_≡_, refl}
 use mathlib.Core.Bool.{Bool, true, false, _&&_}
-use mathlib.Core.List.{List}
+use mathlib.Core.List.{List, []}
 use Prim.Native.Nat.{ℕ, zero, suc, pred, _+_, _<_, _≤_}
 use native.Mathlib.Omega.{arith}
 use lib.Dec.{eqb, ltb, leb}
@@ -20,8 +22,8 @@ use Rattle.count.proofs.Logic.{both-right}
 use Rattle.count.proofs.Search.{find-le}
 use Rattle.count.proofs.Counts.{count-le}
 use Rattle.answers.proofs.Steps.{none-append, by-checks}
-use Rattle.answers.specs.Answer.{Answer, answer, refused, valueOf, Kind, noSuch}
-use Rattle.words.specs.Brackets.{Bracket, opens, closes, neither, isOpens, isCloses, isFirst, isLast, inner, closer, mate, next, previous, step, back, number, first, size}
+use Rattle.answers.specs.Answer.{Answer, answer, refusedWith, refused, valueOf, Reply, plain, Kind, noSuch}
+use Rattle.words.specs.Brackets.{Bracket, opens, closes, neither, isOpens, isCloses, inner, closer, mate, next, previous, step, back, number, first, size}
 use Rattle.words.specs.declared.family.Family.the-variants.{Round as round, Square as square}
 use Rattle.words.specs.Word.{Word, seen, mateIn}
 use Rattle.words.proofs.Stack.{inner-le}
@@ -29,7 +31,7 @@ use Rattle.drawing.specs.Session.{Call}
 use Rattle.drawing.proofs.Neighbours.{neighbours-le}
 use Rattle.format.specs.Bytes.{sizeIn, wordIn}
 use Rattle.format.specs.Open.{openChecks, openRefusal}
-use Rattle.format.specs.Calls.{familyOfKind, moveIn, mapAnswer, crossOf, turnOf, turnBackOf, alongOf, pointOf, areaOf, cellsIn, isNumber, joinChecks, firstIn, firstOf, placesIn, sizeOf, neighboursIn, neighboursOf, joinIn, joiningOf}
+use Rattle.format.specs.Calls.{familyOfKind, moveIn, replyIn, mapAnswer, crossOf, turnOf, turnBackOf, alongOf, pointOf, areaOf, cellsIn, isNumber, joinChecks, firstIn, firstOf, placesIn, sizeOf, neighboursIn, neighboursOf, joinIn, joiningOf}
 use Rattle.format.proofs.Passes.{opens-passes, opened}
 
 -- ---- brackets of a word of n letters; N is any bound of n and of the position
@@ -78,12 +80,8 @@ module _ (w : Word) (N : ℕ) (few : w .size ≤ N) where
   move-most : (c : Call) (p : ℕ) → p ≤ N → moveIn w c p ≤ N + 2
   unfolding moveIn
   move-most Call.cross p l = omega (arith, mate-in-most p l)
-  move-most Call.turn p l =
-      pick-most (isLast (seen round w) (w .size) p) 0 (suc (step (seen round w) (w .size) p)) (N + 2) (omega arith)
-      (omega (arith, step-most (seen round w) (w .size) N few p l))
-  move-most Call.turn-back p l =
-      pick-most (isFirst (seen round w) p) 0 (suc (back (seen round w) (w .size) p)) (N + 2) (omega arith)
-      (omega (arith, back-most (seen round w) (w .size) N few p l))
+  move-most Call.turn p l = omega (arith, step-most (seen round w) (w .size) N few p l)
+  move-most Call.turn-back p l = omega (arith, back-most (seen round w) (w .size) N few p l)
   move-most Call.along p l = omega (arith, step-most (seen square w) (w .size) N few p l)
   move-most Call.point p l = omega (arith, number-most (seen round w) p)
   move-most Call.area p l = omega (arith, number-most (seen square w) p)
@@ -116,28 +114,34 @@ join-most w v (suc k) p N few l =
     go false h = h
 
 -- ---- after the checks
+own-all : {A : Type 0} (P : Answer A → Type 0) (s : List ℕ) (t : Bool) (x : A) (k : ℕ) → (openRefusal s ≡ 0 → t ≡ true → P (answer x))
+    → ((j : ℕ) (xs : List ℕ) → P (refusedWith j xs)) → P (opened s (pick t (answer x) (refused k)))
+unfolding opened openRefusal
+own-all P s t x k h r = by-checks P (openChecks s) (pick t (answer x) (refused k)) refl (λ o. own t (h o)) (λ j xs l. r j xs)
+  where
+    own : (t : Bool) → (t ≡ true → P (answer x)) → P (pick t (answer x) (refused k))
+    own true h = h refl
+    own false h = r k []
+
 own-small : (s : List ℕ) (t : Bool) (x k : ℕ) → (openRefusal s ≡ 0 → t ≡ true → x < 65536)
     → valueOf (opened s (pick t (answer x) (refused k))) < 65536
-unfolding opened openRefusal valueOf
-own-small s t x k h = by-checks (λ a. valueOf a < 65536) (openChecks s) (pick t (answer x) (refused k)) refl (λ o. own t (h o)) (λ j xs l. omega arith)
-  where
-    own : (t : Bool) → (t ≡ true → x < 65536) → valueOf (pick t (answer x) (refused k)) < 65536
-    own true h = h refl
-    own false h = omega arith
+unfolding valueOf
+own-small s t x k h = own-all (λ a. valueOf a < 65536) s t x k h (λ j xs. omega arith)
 
 module _ (s : List ℕ) where
   word-most : openRefusal s ≡ 0 → wordIn s .size ≤ 4096
   unfolding wordIn
   word-most e = omega (arith, opens-passes s e .m-most)
 
-  pub move-small : (c : Call) (i : ℕ) → valueOf (mapAnswer s c i) < 65536
-  unfolding mapAnswer opened
+  pub move-small : (c : Call) (i : ℕ) → valueOf (plain (mapAnswer s c i)) < 32768
+  unfolding mapAnswer opened valueOf
   move-small c i =
-      own-small s (ltb 0 i && leb i (wordIn s .size)) (moveIn (wordIn s) c (pred i)) 13
+      own-all (λ (a : Answer Reply). valueOf (plain a) < 32768) s (ltb 0 i && leb i (wordIn s .size)) (replyIn (wordIn s) c (pred i)) 13
       (λ e t.
       let l : i ≤ wordIn s .size = leb-true i (wordIn s .size) (both-right (ltb 0 i) (leb i (wordIn s .size)) t) in
       let h : wordIn s .size ≤ 4096 = word-most e in
       omega (arith, move-most (wordIn s) 4096 h c (pred i) (omega arith)))
+      (λ j xs. omega arith)
 
   pub first-small : (c : Kind) (k : ℕ) → valueOf (firstOf s c k) < 65536
   unfolding firstOf opened
@@ -181,27 +185,19 @@ module _ (s : List ℕ) (a : Answer ℕ) where
   module _ (i : ℕ) where
     pub cross-fits : a ≡ crossOf s i → valueOf a < 65536
     unfolding crossOf
-    cross-fits e = small (crossOf s i) e (move-small s Call.cross i)
-
-    pub turn-fits : a ≡ turnOf s i → valueOf a < 65536
-    unfolding turnOf
-    turn-fits e = small (turnOf s i) e (move-small s Call.turn i)
-
-    pub turn-back-fits : a ≡ turnBackOf s i → valueOf a < 65536
-    unfolding turnBackOf
-    turn-back-fits e = small (turnBackOf s i) e (move-small s Call.turn-back i)
+    cross-fits e = small (crossOf s i) e (omega (arith, move-small s Call.cross i))
 
     pub along-fits : a ≡ alongOf s i → valueOf a < 65536
     unfolding alongOf
-    along-fits e = small (alongOf s i) e (move-small s Call.along i)
+    along-fits e = small (alongOf s i) e (omega (arith, move-small s Call.along i))
 
     pub point-fits : a ≡ pointOf s i → valueOf a < 65536
     unfolding pointOf
-    point-fits e = small (pointOf s i) e (move-small s Call.point i)
+    point-fits e = small (pointOf s i) e (omega (arith, move-small s Call.point i))
 
     pub area-fits : a ≡ areaOf s i → valueOf a < 65536
     unfolding areaOf
-    area-fits e = small (areaOf s i) e (move-small s Call.area i)
+    area-fits e = small (areaOf s i) e (omega (arith, move-small s Call.area i))
 
     pub first-fits : (c : Kind) → a ≡ firstOf s c i → valueOf a < 65536
     first-fits c e = small (firstOf s c i) e (first-small s c i)
@@ -214,3 +210,16 @@ module _ (s : List ℕ) (a : Answer ℕ) where
 
     pub joining-fits : (v : ℕ) → a ≡ joiningOf s i v → valueOf a < 65536
     joining-fits v e = small (joiningOf s i v) e (joining-small s i v)
+
+-- ---- and of a turn
+module _ (s : List ℕ) (a : Answer Reply) (i : ℕ) where
+  turned : (b : Answer Reply) → a ≡ b → valueOf (plain b) < 32768 → valueOf (plain a) < 65536
+  turned b e h = rw e (omega (arith, h))
+
+  pub turn-fits : a ≡ turnOf s i → valueOf (plain a) < 65536
+  unfolding turnOf
+  turn-fits e = turned (turnOf s i) e (move-small s Call.turn i)
+
+  pub turn-back-fits : a ≡ turnBackOf s i → valueOf (plain a) < 65536
+  unfolding turnBackOf
+  turn-back-fits e = turned (turnBackOf s i) e (move-small s Call.turn-back i)

@@ -1,9 +1,11 @@
 -- Every call on map bytes, as a total function of the bytes and numbers (document 01, "Moves").
 --
--- moveIn w c p        == the answer of the call c at position p of the word w
+-- moveIn w c p        == the number that the call c answers at position p of the word w
+-- signIn w c p        == whether the call c goes round the point there
+-- replyIn w c p       == both
 -- placeChecks s i     == the checks of a call about the place i: opening's, then 13
 -- mapAnswer s c i     == the call c at place i of the map s
--- crossOf, turnOf, turnBackOf, alongOf, pointOf, areaOf == the six, by name
+-- crossOf, turnOf, turnBackOf, alongOf, pointOf, areaOf == the six, by name; only the turns have a sign
 -- mapSession s i cs   == a session on the map s
 -- numberCheck z c k   == 14 or 15: whether there is a point or area k on a map of size z
 -- cellChecks s c k    == the checks of a call about the point or area k: opening's, then 14 or 15
@@ -19,7 +21,7 @@ use Prim.Native.Nat.{ℕ, zero, suc, pred, _+_, _-_, _≤_}
 use lib.Dec.{eqb, ltb, leb}
 use Rattle.count.specs.Below.{pick}
 use Rattle.answers.specs.Checks.{Check, check, after}
-use Rattle.answers.specs.Answer.{Answer, Size, Kind, noSuch}
+use Rattle.answers.specs.Answer.{Answer, Reply, plain, Size, Kind, noSuch}
 use Rattle.words.specs.Brackets.{step, back, number, isFirst, isLast, first, size}
 use Rattle.words.specs.declared.family.Family.{Family}
 use Rattle.words.specs.declared.family.Family.the-variants.{Round as round, Square as square}
@@ -34,49 +36,63 @@ abbrev pub familyOfKind : Kind → Family
 familyOfKind Kind.point = round
 familyOfKind Kind.area = square
 
--- 01, Moves: "Cross: the place of the other end. Turn: the next place about the point. It is 0 at the point's last place. Turn
--- back: the reverse. It is 0 at the point's first place. Along: the next place of the area walk. Point and area of a place."
+-- 01, Moves: "Cross: the place of the other end. Turn: the next place about the point"; "Turn back: the reverse"; "Along: the
+-- next place of the area walk. Point and area of a place." 02, 8/14: "Turn at a point's last place now answers its first place,
+-- and turn back at the first answers the last"
 unfoldable pub moveIn : Word → Call → ℕ → ℕ
-unfolding seen mateIn step back number isFirst isLast
+unfolding seen mateIn step back number
 moveIn w Call.cross p = suc (mateIn w p)
-moveIn w Call.turn p = pick (isLast (seen round w) (w .size) p) 0 (suc (step (seen round w) (w .size) p))
-moveIn w Call.turn-back p = pick (isFirst (seen round w) p) 0 (suc (back (seen round w) (w .size) p))
+moveIn w Call.turn p = suc (step (seen round w) (w .size) p)
+moveIn w Call.turn-back p = suc (back (seen round w) (w .size) p)
 moveIn w Call.along p = suc (step (seen square w) (w .size) p)
 moveIn w Call.point p = number (seen round w) p
 moveIn w Call.area p = number (seen square w) p
+
+-- 02, 8/14: "each with a sign that it has gone round"; "no other turn has the sign"
+unfoldable pub signIn : Word → Call → ℕ → Bool
+unfolding seen isFirst isLast
+signIn w Call.cross p = false
+signIn w Call.turn p = isLast (seen round w) (w .size) p
+signIn w Call.turn-back p = isFirst (seen round w) p
+signIn w Call.along p = false
+signIn w Call.point p = false
+signIn w Call.area p = false
+
+abbrev pub replyIn : Word → Call → ℕ → Reply
+replyIn w c p = record { value = moveIn w c p; sign = signIn w c p }
 
 -- 13: "place not 1 to 2m". 01: "Every call on map bytes runs 8 to 12, then its own"
 abbrev pub placeChecks : List ℕ → ℕ → List Check
 placeChecks s i =
     openChecks s ++ (check 13 (ltb 0 i && leb i (bitsA (sizeIn s))) ((1 ≤ i) × (i ≤ bitsA (sizeIn s))) ∷ [])
 
-unfoldable pub mapAnswer : List ℕ → Call → ℕ → Answer ℕ
-unfolding openOf moveIn wordIn
-mapAnswer s c i = after (placeChecks s i) (moveIn (wordIn s) c (pred i))
+unfoldable pub mapAnswer : List ℕ → Call → ℕ → Answer Reply
+unfolding openOf moveIn signIn wordIn
+mapAnswer s c i = after (placeChecks s i) (replyIn (wordIn s) c (pred i))
 
 unfoldable pub crossOf : List ℕ → ℕ → Answer ℕ
 unfolding mapAnswer
-crossOf s i = mapAnswer s Call.cross i
+crossOf s i = plain (mapAnswer s Call.cross i)
 
-unfoldable pub turnOf : List ℕ → ℕ → Answer ℕ
+unfoldable pub turnOf : List ℕ → ℕ → Answer Reply
 unfolding mapAnswer
 turnOf s i = mapAnswer s Call.turn i
 
-unfoldable pub turnBackOf : List ℕ → ℕ → Answer ℕ
+unfoldable pub turnBackOf : List ℕ → ℕ → Answer Reply
 unfolding mapAnswer
 turnBackOf s i = mapAnswer s Call.turn-back i
 
 unfoldable pub alongOf : List ℕ → ℕ → Answer ℕ
 unfolding mapAnswer
-alongOf s i = mapAnswer s Call.along i
+alongOf s i = plain (mapAnswer s Call.along i)
 
 unfoldable pub pointOf : List ℕ → ℕ → Answer ℕ
 unfolding mapAnswer
-pointOf s i = mapAnswer s Call.point i
+pointOf s i = plain (mapAnswer s Call.point i)
 
 unfoldable pub areaOf : List ℕ → ℕ → Answer ℕ
 unfolding mapAnswer
-areaOf s i = mapAnswer s Call.area i
+areaOf s i = plain (mapAnswer s Call.area i)
 
 -- 01: "on the packed map too the place passes from call to call as in the book"
 unfoldable pub mapSession : List ℕ → ℕ → List Call → Outcome

@@ -1,6 +1,7 @@
 // From an answer to a status and the slots that a C host lends: memory for one number each.
 //
 //     give_place, give_point, give_area, give_count, give_factor    an answer in one slot
+//     give_turn                                                     where a turn leads and whether it has gone round, in two
 //     give_size                                                     m and n in two
 //     give_borders, give_left                                       what unpacking and a session leave
 //     give_length                                                   what packing returns, and its length
@@ -22,3 +23,4 @@ pub use slots::give_left;
 pub use slots::give_place;
 pub use slots::give_point;
 pub use slots::give_size;
+pub use slots::give_turn;

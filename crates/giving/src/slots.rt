@@ -5,11 +5,13 @@ use answers::FactorAnswer;
 use answers::Opened;
 use answers::PlaceAnswer;
 use answers::PointAnswer;
+use answers::TurnAnswer;
 use answers::Unpacked;
 ghost use mathlib.Core.Path.{_≡_};
 ghost use Prim.Native.Nat.{_<_};
-ghost use Rattle.answers.specs.Answer.{numberOf, valueOf, told, Size};
-ghost use Rattle.answers.specs.Means.{openedMeans, placeMeans, pointMeans, areaMeans, countMeans, factorMeans, unpackedMeans};
+ghost use Rattle.count.specs.Below.{pick};
+ghost use Rattle.answers.specs.Answer.{numberOf, valueOf, told, plain, goneRound, Size};
+ghost use Rattle.answers.specs.Means.{openedMeans, placeMeans, turnMeans, pointMeans, areaMeans, countMeans, factorMeans, unpackedMeans};
 ghost use Rattle.answers.specs.Lent.{leaves, itself};
 
 pub fn give_place(a: PlaceAnswer, out: &mut u16) -> u8
@@ -25,6 +27,31 @@ pub fn give_place(a: PlaceAnswer, out: &mut u16) -> u8
         }
         PlaceAnswer::Declined(k) => k,
     }
+}
+
+// Where a turn leads, and 1 where it has gone round, else 0, in two slots.
+pub fn give_turn(a: TurnAnswer, out: &mut u16, round: &mut u8) -> u8
+    requires { ⌜ valueOf (plain (turnMeans a)) < 65536 ⌝ }
+    ensures { λ r. ⌜ r ≡ numberOf (turnMeans a) ⌝ }
+    ensures { λ _. ⌜ now (out .exit) ≡ leaves itself (plain (turnMeans a)) (now (out .entry)) ⌝ }
+    ensures { λ _. ⌜ now (round .exit) ≡ leaves itself (goneRound (turnMeans a)) (now (round .entry)) ⌝ }
+{
+    match a {
+        TurnAnswer::At(p, sign) => {
+            let x = p.0;
+            *out = x as u16;
+            *round = flag(sign);
+            0
+        }
+        TurnAnswer::Declined(k) => k,
+    }
+}
+
+// 1 with the sign, else 0.
+fn flag(sign: bool) -> u8
+    ensures { λ r. ⌜ r ≡ pick sign 1 0 ⌝ }
+{
+    if sign { 1 } else { 0 }
 }
 
 pub fn give_point(a: PointAnswer, out: &mut u16) -> u8

@@ -1,19 +1,17 @@
 // The four moves: from a place to a place.
 use answers::Place;
 use answers::PlaceAnswer;
+use answers::TurnAnswer;
 use opening::place_refusal;
-use walking::mate_at;
+use walking::back_at;
 use walking::own_mate_at;
 use walking::step_at;
-use walking::turn_back_past;
-use walking::turn_past;
+use walking::turn_back_to;
+use walking::turn_to;
 use words::Family;
 ghost use mathlib.Core.Path.{_≡_};
-ghost use Rattle.answers.specs.Means.{placeMeans};
-ghost use Rattle.drawing.specs.Session.{Call};
-ghost use Rattle.format.specs.Bytes.{wordIn};
-ghost use Rattle.format.specs.Calls.{moveIn, crossOf, turnOf, turnBackOf, alongOf};
-ghost use Rattle.walking.specs.Positions.{Position};
+ghost use Rattle.answers.specs.Means.{placeMeans, turnMeans};
+ghost use Rattle.format.specs.Calls.{crossOf, turnOf, turnBackOf, alongOf};
 
 // The place of the other end.
 pub fn cross(map: &[u8], place: Place) -> PlaceAnswer
@@ -28,28 +26,34 @@ pub fn cross(map: &[u8], place: Place) -> PlaceAnswer
     PlaceAnswer::At(Place(other))
 }
 
-// The next place about the point, or 0 at the point's last place.
-pub fn turn(map: &[u8], place: Place) -> PlaceAnswer
-    ensures { λ r. ⌜ placeMeans r ≡ turnOf (now (map .entry)) (place .0) ⌝ }
+// The next place about the point; after the last the first, with the sign that it has gone round.
+pub fn turn(map: &[u8], place: Place) -> TurnAnswer
+    ensures { λ r. ⌜ turnMeans r ≡ turnOf (now (map .entry)) (place .0) ⌝ }
 {
     let at = place.0;
     let k = place_refusal(map, place);
     if k != 0 {
-        return PlaceAnswer::Declined(k);
+        return TurnAnswer::Declined(k);
     }
-    PlaceAnswer::At(Place(turn_from(map, at - 1)))
+    let p = at - 1;
+    let turn = turn_to(map, p, step_at(map, Family::Round, p));
+    let to = turn.place;
+    TurnAnswer::At(to, turn.round)
 }
 
-// The reverse of turn, or 0 at the point's first place.
-pub fn turn_back(map: &[u8], place: Place) -> PlaceAnswer
-    ensures { λ r. ⌜ placeMeans r ≡ turnBackOf (now (map .entry)) (place .0) ⌝ }
+// The reverse of turn; before the first place the last, with the sign.
+pub fn turn_back(map: &[u8], place: Place) -> TurnAnswer
+    ensures { λ r. ⌜ turnMeans r ≡ turnBackOf (now (map .entry)) (place .0) ⌝ }
 {
     let at = place.0;
     let k = place_refusal(map, place);
     if k != 0 {
-        return PlaceAnswer::Declined(k);
+        return TurnAnswer::Declined(k);
     }
-    PlaceAnswer::At(Place(turn_back_from(map, at - 1)))
+    let p = at - 1;
+    let back = turn_back_to(map, p, back_at(map, Family::Round, p));
+    let to = back.place;
+    TurnAnswer::At(to, back.round)
 }
 
 // The next place of the area walk.
@@ -63,25 +67,4 @@ pub fn along(map: &[u8], place: Place) -> PlaceAnswer
     }
     let ahead = step_at(map, Family::Square, at - 1) + 1;
     PlaceAnswer::At(Place(ahead))
-}
-
-// Turn, by the partner among the round brackets.
-fn turn_from(map: &[u8], p: usize) -> usize
-    requires { ⌜ Position (now map) p ⌝ }
-    ensures { λ r. ⌜ r ≡ moveIn (wordIn (now (map .entry))) Call.turn p ⌝ }
-{
-    let q = mate_at(map, Family::Round, p);
-    turn_past(map, p, q)
-}
-
-// Turn back, by the partner of the position before; 0 at the first place.
-fn turn_back_from(map: &[u8], p: usize) -> usize
-    requires { ⌜ Position (now map) p ⌝ }
-    ensures { λ r. ⌜ r ≡ moveIn (wordIn (now (map .entry))) Call.turn-back p ⌝ }
-{
-    if p == 0 {
-        return 0;
-    }
-    let q = mate_at(map, Family::Round, p - 1);
-    turn_back_past(map, p, q)
 }

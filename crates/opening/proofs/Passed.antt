@@ -37,11 +37,11 @@ module _ (s : List ℕ) (i k : ℕ) (e : k ≡ placeRefusal s i) where
       let r = range-has i (bitsA (sizeIn s)) (h .1) in
       (h .0, r .0, r .1)
 
-  pub place-declines : (a : Answer ℕ) → (k ≡ 0 → ⊥) → refused k ≡ checked (placeChecks s i) a
+  pub place-declines : {A : Type 0} (a : Answer A) → (k ≡ 0 → ⊥) → refused k ≡ checked (placeChecks s i) a
   unfolding placeRefusal
   place-declines a m = ap refused e ∙ sym (checked-some (placeChecks s i) a refl (λ z. m (e ∙ z)))
 
-  pub place-answers : (a : Answer ℕ) → k ≡ 0 → a ≡ checked (placeChecks s i) a
+  pub place-answers : {A : Type 0} (a : Answer A) → k ≡ 0 → a ≡ checked (placeChecks s i) a
   unfolding placeRefusal
   place-answers a z = sym (checked-none (placeChecks s i) a refl (sym e ∙ z))
 

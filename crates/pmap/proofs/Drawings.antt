@@ -22,7 +22,7 @@ use Rattle.count.proofs.Counts.{count-le}
 use Rattle.count.proofs.Lists.{table-length, gather-length}
 use Rattle.count.proofs.Logic.{true-or-false}
 use Rattle.answers.specs.Checks.{check}
-use Rattle.answers.proofs.Steps.{stops-at, number-after, by-numbers, none-append, by-checks, answered-all}
+use Rattle.answers.proofs.Steps.{stops-at, number-after, by-numbers, none-append, by-checks, answered-all, told-answered}
 use Rattle.answers.specs.Answer.{Answer, answer, refusedWith, refused, numberOf, carriedBy, valueOf, told}
 use Rattle.answers.specs.declared.cases.Packed.{Packed}
 use Rattle.answers.specs.Means.{packedMeans}
@@ -85,10 +85,6 @@ unfolding carriedBy
 carried-length (answer s) = refl
 carried-length (refusedWith k xs) = refl
 
-length-told : (a : Answer (List ℕ)) (l : ℕ) → answer l ≡ told length a → (s : List ℕ) × (a ≡ answer s) × (l ≡ length s)
-length-told (answer s) l e = (s, refl, cc)
-length-told (refusedWith k xs) l e = let z : _≡_ {A = ℕ} 0 1 = cc in absurd (omega arith)
-
 -- the status and the two numbers above it, as they are read from the number that is returned
 record Read (r : ℕ) (a : Answer ℕ) : Type 0 where
   low : r % 256 ≡ numberOf a
@@ -130,7 +126,7 @@ module _ (D : Drawing) (w o : ℕ) where
   unfolding packOf numberOf
   length-small l e =
       let n = pack-number (answer l) e in
-      let t = length-told (packOf D w o) l e in
+      let t = told-answered length (packOf D w o) l (sym e) in
       omega (
         arith,
         t .2,

@@ -2,6 +2,7 @@
 --
 -- status-same, slot-same == equal answers have one status, and leave one slot
 -- borders-same, points-same, borders-fit, points-fit == the same of opening, which has two slots
+-- turn-place-same, gone-round-same == the same of a turn, which has two slots
 -- left-status == the place left by a session, or its refusal, has the session's status
 -- fits-all == every answer of a call with one slot fits it
 -- Assumes nothing.
@@ -9,7 +10,7 @@ use mathlib.Core.Path.{_≡_, refl, ap, _∙_}
 use mathlib.Core.List.{List}
 use Prim.Native.Nat.{ℕ, _<_}
 use borrow.Author.Needs.{needs}
-use Rattle.answers.specs.Answer.{Answer, answer, refusedWith, numberOf, valueOf, Size, told}
+use Rattle.answers.specs.Answer.{Answer, answer, refusedWith, numberOf, valueOf, told, Reply, plain, goneRound, Size}
 use Rattle.answers.specs.Lent.{leaves, itself}
 use Rattle.drawing.specs.Session.{Outcome}
 use Rattle.format.specs.Open.{openOf}
@@ -39,6 +40,14 @@ module _ (s : List ℕ) (a : Answer Size) where
 
   pub points-fit : a ≡ openOf s → valueOf (told (λ (z : Size). z .n) a) < 65536
   points-fit e = rw e (open-small s .1)
+
+-- ---- a turn
+module _ (x old : ℕ) (a b : Answer Reply) where
+  pub turn-place-same : x ≡ leaves itself (plain a) old → a ≡ b → x ≡ leaves itself (plain b) old
+  turn-place-same h e = h ∙ ap (λ y. leaves itself (plain y) old) e
+
+  pub gone-round-same : x ≡ leaves itself (goneRound a) old → a ≡ b → x ≡ leaves itself (goneRound b) old
+  gone-round-same h e = h ∙ ap (λ y. leaves itself (goneRound y) old) e
 
 -- ---- a session
 number-left : (o : Answer Outcome) → numberOf (told (λ (o : Outcome). o .place) o) ≡ numberOf o

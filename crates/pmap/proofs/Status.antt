@@ -6,7 +6,7 @@
 -- Assumes nothing.
 use mathlib.Core.Path.{_≡_, refl}
 use mathlib.Core.Bool.{true}
-use mathlib.Core.List.{List, [], _++_}
+use mathlib.Core.List.{List, _++_}
 use Prim.Native.Nat.{ℕ, pred}
 use native.Mathlib.Omega.{arith}
 use lib.Ieee.{Float}
@@ -20,7 +20,7 @@ use Rattle.drawing.specs.Drawing.{Drawing}
 use Rattle.drawing.specs.Session.{Call}
 use Rattle.format.specs.Bytes.{sizeIn, wordIn}
 use Rattle.format.specs.Open.{openChecks, openOf}
-use Rattle.format.specs.Calls.{moveIn, placeChecks, mapAnswer, mapSession, cellsIn, cellChecks, firstIn, firstOf, placesIn, sizeOf, neighboursIn, neighboursOf, joinIn, joinChecks, joiningOf}
+use Rattle.format.specs.Calls.{replyIn, placeChecks, mapAnswer, mapSession, cellsIn, cellChecks, firstIn, firstOf, placesIn, sizeOf, neighboursIn, neighboursOf, joinIn, joinChecks, joiningOf}
 use Rattle.format.specs.Sessions.{callsOf, runChecks, ranOf}
 use Rattle.tariff.specs.Maps.{factorOf, factorChecks, factorIn}
 use Rattle.format.specs.Pack.{packedBytes, packChecks, packOf, drawingOf, unpackChecks, unpackOf}
@@ -47,7 +47,7 @@ module _ (s : List ℕ) where
 
   pub move-tells : (c : Call) (i : ℕ) → Tells (mapAnswer s c i)
   unfolding mapAnswer
-  move-tells c i = after-tells (placeChecks s i) (moveIn (wordIn s) c (pred i)) refl
+  move-tells c i = after-tells (placeChecks s i) (replyIn (wordIn s) c (pred i)) refl
 
   pub first-tells : (c : Kind) (k : ℕ) → Tells (firstOf s c k)
   unfolding firstOf

@@ -3,8 +3,9 @@ use answers::Place;
 use giving::give_area;
 use giving::give_place;
 use giving::give_point;
+use giving::give_turn;
 ghost use mathlib.Core.Path.{_≡_};
-ghost use Rattle.answers.specs.Answer.{numberOf};
+ghost use Rattle.answers.specs.Answer.{numberOf, plain, goneRound};
 ghost use Rattle.answers.specs.Lent.{leaves, itself};
 ghost use Rattle.format.specs.Calls.{crossOf, turnOf, turnBackOf, alongOf, pointOf, areaOf};
 
@@ -17,22 +18,24 @@ pub extern "C" fn pmap_cross(map: &[u8], place: usize, out: &mut u16) -> u8
     give_place(map::cross(map, Place(place)), out)
 }
 
-// The next place about the point, or 0 at its last place.
+// The next place about the point; after the last the first, and then it has gone round.
 #[no_mangle]
-pub extern "C" fn pmap_turn(map: &[u8], place: usize, out: &mut u16) -> u8
+pub extern "C" fn pmap_turn(map: &[u8], place: usize, out: &mut u16, round: &mut u8) -> u8
     ensures { λ r. ⌜ r ≡ numberOf (turnOf (now (map .entry)) place) ⌝ }
-    ensures { λ _. ⌜ now (out .exit) ≡ leaves itself (turnOf (now (map .entry)) place) (now (out .entry)) ⌝ }
+    ensures { λ _. ⌜ now (out .exit) ≡ leaves itself (plain (turnOf (now (map .entry)) place)) (now (out .entry)) ⌝ }
+    ensures { λ _. ⌜ now (round .exit) ≡ leaves itself (goneRound (turnOf (now (map .entry)) place)) (now (round .entry)) ⌝ }
 {
-    give_place(map::turn(map, Place(place)), out)
+    give_turn(map::turn(map, Place(place)), out, round)
 }
 
-// The reverse, or 0 at the point's first place.
+// The reverse; before the first the last, and then it has gone round.
 #[no_mangle]
-pub extern "C" fn pmap_turn_back(map: &[u8], place: usize, out: &mut u16) -> u8
+pub extern "C" fn pmap_turn_back(map: &[u8], place: usize, out: &mut u16, round: &mut u8) -> u8
     ensures { λ r. ⌜ r ≡ numberOf (turnBackOf (now (map .entry)) place) ⌝ }
-    ensures { λ _. ⌜ now (out .exit) ≡ leaves itself (turnBackOf (now (map .entry)) place) (now (out .entry)) ⌝ }
+    ensures { λ _. ⌜ now (out .exit) ≡ leaves itself (plain (turnBackOf (now (map .entry)) place)) (now (out .entry)) ⌝ }
+    ensures { λ _. ⌜ now (round .exit) ≡ leaves itself (goneRound (turnBackOf (now (map .entry)) place)) (now (round .entry)) ⌝ }
 {
-    give_place(map::turn_back(map, Place(place)), out)
+    give_turn(map::turn_back(map, Place(place)), out, round)
 }
 
 // The next place of the area walk.

@@ -15,10 +15,10 @@ use native.Mathlib.Omega.{arith}
 use lib.ListN.{length, getD, set, take, drop, length-set, drop-of-length-le, take-append-drop}
 use lib.Seq.{drop-cons, drop-drop, drop-set-lt, take-suc-set, append-snoc}
 use Rattle.answers.specs.Lent.{laid}
-use Rattle.answers.specs.Answer.{Answer, numberOf, valueOf}
+use Rattle.answers.specs.Answer.{Answer, numberOf, valueOf, told, Reply}
 use Rattle.drawing.specs.Session.{Call, placeAfter, session}
 use Rattle.format.specs.Calls.{mapAnswer, mapSession}
-use Rattle.format.specs.Sessions.{callOf, callsOf, statusesOf, valuesOf}
+use Rattle.format.specs.Sessions.{callOf, callsOf, entryOf, statusesOf, valuesOf}
 use Rattle.sessions.specs.Runs.{Room, Leaves}
 use Rattle.calling.specs.Told.{Gives}
 use Rattle.calling.specs.declared.calls.Told.{Told}
@@ -36,7 +36,7 @@ codes-here : (ks : List ℕ) (i : ℕ) → i < length ks → callsOf (drop i ks)
 codes-here ks i l = rw (add-one, drop-cons ks i 0)
 
 -- entry by entry, f of each answer
-module _ (s : List ℕ) (f : Answer ℕ → ℕ) where
+module _ (s : List ℕ) (f : Answer Reply → ℕ) where
   pub from : ℕ → List Call → List ℕ → ℕ → List ℕ
   from p cs st i = take i st ++ laid (map f (mapSession s p cs .answers)) (drop i st)
 
@@ -63,6 +63,9 @@ place-end : (s : List ℕ) (p : ℕ) → mapSession s p [] .place ≡ p
 unfolding mapSession session
 place-end s p = refl
 
+abbrev entry : Answer Reply → ℕ
+entry a = valueOf (told entryOf a)
+
 module _ (s : List ℕ) (first : ℕ) (ks st₀ an₀ : List ℕ) where
   pub record Partway (st an : List ℕ) (p i : ℕ) : Type 0 where
     pub within : i ≤ length ks
@@ -71,7 +74,7 @@ module _ (s : List ℕ) (first : ℕ) (ks st₀ an₀ : List ℕ) where
     pub answers-long : length an ≡ length an₀
     pub place : mapSession s p (callsOf (drop i ks)) .place ≡ mapSession s first (callsOf ks) .place
     pub statuses : from s numberOf p (callsOf (drop i ks)) st i ≡ laid (statusesOf (mapSession s first (callsOf ks))) st₀
-    pub answers : from s valueOf p (callsOf (drop i ks)) an i ≡ laid (valuesOf (mapSession s first (callsOf ks))) an₀
+    pub answers : from s entry p (callsOf (drop i ks)) an i ≡ laid (valuesOf (mapSession s first (callsOf ks))) an₀
 
   pub partway-start : Room ks st₀ an₀ → Partway st₀ an₀ first 0
   partway-start R =
@@ -82,7 +85,7 @@ module _ (s : List ℕ) (first : ℕ) (ks st₀ an₀ : List ℕ) where
         answers-long = refl;
         place = refl;
         statuses = from-start s numberOf first (callsOf ks) st₀;
-        answers = from-start s valueOf first (callsOf ks) an₀;
+        answers = from-start s entry first (callsOf ks) an₀;
       }
 
   module _ (st an : List ℕ) (p i : ℕ) (R : Partway st an p i) where
@@ -102,8 +105,8 @@ module _ (s : List ℕ) (first : ℕ) (ks st₀ an₀ : List ℕ) where
               from-more s numberOf p c cs st i (t .status) (t .place .0) (omega (arith, R .room .statuses, R .statuses-long)) (T .status) (T .place)
               ∙ ap (λ x. from s numberOf p x st i) (sym h) ∙ R .statuses;
           answers =
-              from-more s valueOf p c cs an i (t .value) (t .place .0) (omega (arith, R .room .answers, R .answers-long)) (T .value) (T .place)
-              ∙ ap (λ x. from s valueOf p x an i) (sym h) ∙ R .answers;
+              from-more s entry p c cs an i (t .value) (t .place .0) (omega (arith, R .room .answers, R .answers-long)) (T .value) (T .place)
+              ∙ ap (λ x. from s entry p x an i) (sym h) ∙ R .answers;
         }
 
     none-left : length ks ≤ i → callsOf (drop i ks) ≡ []
@@ -114,5 +117,5 @@ module _ (s : List ℕ) (first : ℕ) (ks st₀ an₀ : List ℕ) where
         record {
           place = sym (place-end s p) ∙ ap (λ x. mapSession s p x .place) (sym (none-left l)) ∙ R .place;
           statuses = sym (from-end s numberOf p st i) ∙ ap (λ x. from s numberOf p x st i) (sym (none-left l)) ∙ R .statuses;
-          answers = sym (from-end s valueOf p an i) ∙ ap (λ x. from s valueOf p x an i) (sym (none-left l)) ∙ R .answers;
+          answers = sym (from-end s entry p an i) ∙ ap (λ x. from s entry p x an i) (sym (none-left l)) ∙ R .answers;
         }

@@ -5,10 +5,10 @@
 //     NO_CALL   the number of the refusal where a byte is the code of no call
 //
 // Conventions. A call is lent as its code, one byte. The first number is any number. For call i, entry i of
-// `statuses` is 0 or the number of its refusal, entry i of `answers` its answer, 0 where it is refused; the
-// entries beyond the calls stay as they were. The whole session is declined by opening's checks, where the bytes
-// do not open, by 2, where a lent list is shorter than the list of calls, and by NO_CALL. Then nothing is
-// written. No function asks anything of its caller.
+// `statuses` is 0 or the number of its refusal, entry i of `answers` its answer, with bit 15 where a turn has gone
+// round, and 0 where it is refused; the entries beyond the calls stay as they were. The whole session is declined
+// by opening's checks, where the bytes do not open, by 2, where a lent list is shorter than the list of calls, and
+// by NO_CALL. Then nothing is written. No function asks anything of its caller.
 //
 // The bytes are checked once, before the first call. Where there are many calls, one pass over the map then finds
 // the mate, the area and the point of every place, in lists on the stack (the crate `surveying`), and each call

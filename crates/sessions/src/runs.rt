@@ -22,7 +22,7 @@ ghost use Rattle.sessions.specs.Runs.{Room, Leaves};
 // as long as the pass takes for so many places, and FEW of them as long as making the lists.
 const FEW: usize = 16;
 
-const PLACES_A_CALL: usize = 24;
+const PLACES_A_CALL: usize = 40;
 
 // Runs the calls on the map, from the first number on.
 pub fn session(

@@ -2,7 +2,7 @@
 //
 //     survey                   fills three lists of a map, each with an entry for every place
 //     own_mate_in              the partner of a position, in its own family
-//     mate_in, step_in         its partner in a family; the next position about the same point, the same area
+//     step_in, back_in         the next position about the same point, the same area; the one before
 //     point_in, area_in        its point, its area
 //
 // Conventions. Positions count from 0: position p is place p + 1. Entry p of `mates` is the position that crossing p
@@ -20,7 +20,7 @@ mod moves;
 mod pass;
 
 pub use moves::area_in;
-pub use moves::mate_in;
+pub use moves::back_in;
 pub use moves::own_mate_in;
 pub use moves::point_in;
 pub use moves::step_in;

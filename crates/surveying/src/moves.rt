@@ -7,12 +7,13 @@ use layout::family_bit;
 use layout::part_a;
 use lending::wide;
 use walking::after;
+use walking::before;
 use walking::mate_at;
 use walking::number_at;
 use walking::own_mate_at;
 use words::Family;
 ghost use mathlib.Core.Path.{_≡_};
-ghost use Rattle.words.specs.Brackets.{mate, step, number};
+ghost use Rattle.words.specs.Brackets.{mate, step, back, number};
 ghost use Rattle.words.specs.declared.family.Family.the-variants.{Round as round, Square as square};
 ghost use Rattle.words.specs.Word.{seen, mateIn};
 ghost use Rattle.format.specs.Bytes.{sizeIn, bitsA, wordIn};
@@ -32,7 +33,7 @@ pub fn own_mate_in(map: &[u8], mates: &[u16], p: usize) -> usize
 }
 
 // The partner of position p in a family; p itself where p is of the other family.
-pub fn mate_in(map: &[u8], mates: &[u16], family: Family, p: usize) -> usize
+fn mate_in(map: &[u8], mates: &[u16], family: Family, p: usize) -> usize
     requires { ⌜ Position (now map) p × Mates (now map) (now mates) ⌝ }
     ensures { λ r. ⌜ r ≡ mate (seen family (wordIn (now (map .entry)))) (bitsA (sizeIn (now (map .entry)))) p ⌝ }
     ensures { λ r. ⌜ Position (now (map .entry)) r ⌝ }
@@ -53,6 +54,15 @@ pub fn step_in(map: &[u8], mates: &[u16], family: Family, p: usize) -> usize
     ensures { λ r. ⌜ Position (now (map .entry)) r ⌝ }
 {
     after(bits_a(map), mate_in(map, mates, family, p))
+}
+
+// The position before p about its point (area): the partner of the position before.
+pub fn back_in(map: &[u8], mates: &[u16], family: Family, p: usize) -> usize
+    requires { ⌜ Position (now map) p × Mates (now map) (now mates) ⌝ }
+    ensures { λ r. ⌜ r ≡ back (seen family (wordIn (now (map .entry)))) (bitsA (sizeIn (now (map .entry)))) p ⌝ }
+    ensures { λ r. ⌜ Position (now (map .entry)) r ⌝ }
+{
+    mate_in(map, mates, family, before(bits_a(map), p))
 }
 
 // The point that position p is about.

@@ -1,5 +1,4 @@
 -- The word of a map's bytes: the laws.
-pub mod Partners
 pub mod Decoded
 pub mod Walks
 pub mod Checked

@@ -7,6 +7,8 @@
 -- sum-mate, sum-at            == the partner in a family, by a sum of the crossing and the position itself
 -- own-fits, other-fits, sum-fits == the numbers that make it up
 -- step-is, step-position      == the step is the position after the partner
+-- before-first, before-other  == the position before one
+-- back-is                     == the step back is the partner of the position before
 -- number-is-rank              == the number
 -- Firsts                      == what holds of the first position of a number
 -- first-holds, first-one, first-more == it holds of `first`, which is 0 for number 1, else after the opening that reaches it
@@ -20,13 +22,13 @@ use native.Mathlib.Omega.{arith}
 use borrow.Author.Tests.{eq-eqb, ne-eqb}
 use lib.Dec.{eqb}
 use Rattle.count.proofs.Logic.{same-or-not, pick-yes, pick-no}
-use Rattle.words.specs.Brackets.{inner, mate, next, step, number, first}
+use Rattle.words.specs.Brackets.{inner, mate, next, previous, step, back, number, first}
 use Rattle.words.specs.declared.family.Family.{Family}
 use Rattle.words.specs.declared.family.Family.the-variants.{Round as round, Square as square}
 use Rattle.words.specs.Word.{seen, mateIn}
 use Rattle.words.proofs.Stack.{inner-le, inner-inner}
 use Rattle.words.proofs.Mate.{mate-below, mate-neither}
-use Rattle.words.proofs.Step.{next-plain, next-last}
+use Rattle.words.proofs.Step.{next-plain, next-last, previous-plain, previous-zero}
 use Rattle.words.proofs.Numbers.{first-zero, first-inner, number-reached, inner-number}
 use Rattle.bits.specs.Strings.{bit, rank, select, brackets}
 use Rattle.bits.specs.Letters.{familyBit}
@@ -68,6 +70,16 @@ module _ (n q : ℕ) where
 pub after-few : (s : List ℕ) (n q : ℕ) → Position s q → n ≡ bitsA (sizeIn s) → n ≤ 4096
 after-few s n q P e = omega (arith, places-most s (P .opens))
 
+-- ---- the position before one
+module _ (n p : ℕ) where
+  pub before-first : p ≡ 0 → n - 1 ≡ previous n p
+  before-first e = omega (arith, previous-zero n) ∙ ap (previous n) (sym e)
+
+  pub before-other : (p ≡ 0 → ⊥) → p - 1 ≡ previous n p
+  before-other m =
+      let e : p - 1 + 1 ≡ p = omega arith in
+      sym (previous-plain n (p - 1)) ∙ ap (previous n) e
+
 module _ (s : List ℕ) (K : Family) (p : ℕ) (P : Position s p) where
   mate-at : (r : ℕ) → r ≡ mate (seen K (wordIn s)) (bitsA (sizeIn s)) p → Position s r
   mate-at r e =
@@ -99,6 +111,11 @@ module _ (s : List ℕ) (K : Family) (p : ℕ) (P : Position s p) where
 
   pub step-position : (n r : ℕ) → n ≡ bitsA (sizeIn s) → r < n → Position s r
   step-position n r e l = position s r (P .opens) (omega arith)
+
+  pub back-is : (q n r : ℕ) → n ≡ bitsA (sizeIn s) → q ≡ previous n p → r ≡ mate (seen K (wordIn s)) (bitsA (sizeIn s)) q
+      → r ≡ back (seen K (wordIn s)) (bitsA (sizeIn s)) p
+  unfolding back
+  back-is q n r f e h = h ∙ ap (mate (seen K (wordIn s)) (bitsA (sizeIn s))) (e ∙ ap (λ k. previous k p) f)
 
   pub number-is-rank : (a b : List ℕ) (v j i r : ℕ) → v ≡ familyBit K → a ≡ partA s → b ≡ partB K s → j ≡ rank v a p
       → i ≡ inner (brackets b) j → r ≡ rank 0 b i → r + 1 ≡ number (seen K (wordIn s)) p

@@ -6,11 +6,13 @@
 //     after              the position after one, and 0 after the last
 //     step_at            the next position about the same point, the same area
 //     step_past          the same, from a partner
+//     before             the position before one, and the last before 0
+//     back_at            the reverse of step_at
 //     number_at          the number of its point, of its area, by the family
 //     point_of, area_of  its point, its area
 //     first_at           the first position of a point, of an area
-//     turn_past          turn, from a partner
-//     turn_back_past     turn back, from a partner
+//     turn_to            turn, from a step: where it leads, and whether it has gone round
+//     turn_back_to       turn back, from a step back
 //
 // Conventions. Positions count from 0: position p is place p + 1. Points and areas count from 1. Round
 // brackets enclose points, square ones areas; what holds of both is written once, for a family of
@@ -23,10 +25,13 @@
 mod turning;
 mod word;
 
-pub use turning::turn_back_past;
-pub use turning::turn_past;
+pub use turning::Turn;
+pub use turning::turn_back_to;
+pub use turning::turn_to;
 pub use word::after;
 pub use word::area_of;
+pub use word::back_at;
+pub use word::before;
 pub use word::family_at;
 pub use word::first_at;
 pub use word::mate_at;

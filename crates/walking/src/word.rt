@@ -10,7 +10,7 @@ use opening::Cell;
 use words::Family;
 ghost use mathlib.Core.Path.{_≡_};
 ghost use Prim.Native.Nat.{_<_, _≤_};
-ghost use Rattle.words.specs.Brackets.{mate, next, step, number, first};
+ghost use Rattle.words.specs.Brackets.{mate, next, previous, step, back, number, first};
 ghost use Rattle.words.specs.declared.family.Family.the-variants.{Round as round, Square as square};
 ghost use Rattle.words.specs.Word.{seen, mateIn};
 ghost use Rattle.drawing.specs.Drawing.{mostEnds};
@@ -91,6 +91,23 @@ pub fn after(n: usize, q: usize) -> usize
 {
     let r = q + 1;
     if r < n { r } else { 0 }
+}
+
+// The position before p about its point (area): the partner of the position before.
+pub fn back_at(map: &[u8], family: Family, p: usize) -> usize
+    requires { ⌜ Position (now map) p ⌝ }
+    ensures { λ r. ⌜ r ≡ back (seen family (wordIn (now (map .entry)))) (bitsA (sizeIn (now (map .entry)))) p ⌝ }
+    ensures { λ r. ⌜ Position (now (map .entry)) r ⌝ }
+{
+    mate_at(map, family, before(bits_a(map), p))
+}
+
+// The position before p, of n; the last before 0.
+pub fn before(n: usize, p: usize) -> usize
+    requires { ⌜ p < n ⌝ }
+    ensures { λ r. ⌜ (r ≡ previous n p) × (r < n) ⌝ }
+{
+    if p == 0 { n - 1 } else { p - 1 }
 }
 
 // The point that position p is about.

@@ -15,3 +15,4 @@ pub mod Thin
 pub mod Openings
 pub mod Mates
 pub mod Order
+pub mod Round

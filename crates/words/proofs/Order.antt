@@ -5,6 +5,7 @@
 -- walk-rises   == a step to a higher position passes over none of the same point (area)
 -- walk-returns == any other step leads to the first position, and from the last
 -- walk-more, walk-last == the same by how many positions of the point (area) come before: one more, or all but this one
+-- none-before  == no position of the point (area) comes before its first one
 -- walk-order   == from the first position of a point (area) the i-th step leads to its i-th position, and after all of them back
 -- walk-gather  == so what the walk meets, of any kind, is what a pass over all positions gathers from those with the number
 -- about-cell   == the same of any number: the walk begins at its first position, and meets nothing where no position has it
@@ -114,7 +115,7 @@ module _ (b : ℕ → Bracket) where
           count-next (on k) p n l (eq-eqb (number b p) k e) (λ q i j. other q (walk-returns n bal p l h .1 q i j))
 
     module _ (f : ℕ) (l : f < n) (first : inner b f ≡ f) (e : number b f ≡ k) where
-      none-before : count (on k) f ≡ 0
+      pub none-before : count (on k) f ≡ 0
       none-before =
           count-none (on k) f
           (λ q i. ne-eqb (number b q) k (λ g. omega (arith, number-inner b q f (g ∙ sym e), inner-le b q)))

@@ -8,7 +8,7 @@ use Rattle.drawing.specs.Book.{bookSession, bookFirst, bookSize, bookNeighbours
 use Rattle.format.specs.Calls.{mapSession, firstOf, sizeOf, neighboursOf, joiningOf}
 use Rattle.worked.specs.Cases.{empty, stub, enclave, enclaveMap, triangle, triangleMap}
 
--- round the outside of the triangle, past the end of a point, and on with a 0
+-- round the outside of the triangle and past the last place of a point; on the enclave past it in both senses
 abbrev calls : List Call
 calls =
     Call.area ∷ Call.point ∷ Call.along ∷ Call.area ∷ Call.cross ∷ Call.turn-back ∷ Call.along ∷ Call.point ∷ Call.turn ∷ Call.turn ∷ Call.area ∷ []

@@ -1,6 +1,8 @@
--- Document 01's worked examples (a) to (l), one theorem that goes through the definitions by computation. Assumes nothing.
+-- Document 01's worked examples (a) to (l), the turns as document 02, 8/14, has them: one theorem that goes through the definitions
+-- by computation. Assumes nothing.
 use mathlib.Core.Path.{_≡_, refl}
-use Rattle.answers.specs.Answer.{answer, refused, Kind}
+use mathlib.Core.Bool.{true}
+use Rattle.answers.specs.Answer.{answer, refused, unsigned, Kind}
 use Rattle.drawing.specs.Drawing.{cells}
 use Rattle.format.specs.Calls.{crossOf, turnOf, pointOf, areaOf, sizeOf}
 use Rattle.format.specs.Open.{openOf}
@@ -18,7 +20,8 @@ pub record WorkedExamples : Type 0 where
   pub b-areas : cells stub Kind.area ≡ 1
   pub b-area-1 : sizeOf stubMap Kind.area 1 ≡ answer 2
   pub b-area-2 : sizeOf stubMap Kind.area 2 ≡ refused 15
-  pub b-turn : turnOf stubMap 1 ≡ answer 0
+  -- 02, 8/14: "the turns in cases (b) and (h) both answer 1 with the sign"
+  pub b-turn : turnOf stubMap 1 ≡ answer (record { value = 1; sign = true })
   pub c-packs : pack enclave ≡ answer enclaveMap
   pub c-areas : cells enclave Kind.area ≡ 2
   pub c-area-1 : areaOf enclaveMap 1 ≡ answer 1
@@ -29,8 +32,8 @@ pub record WorkedExamples : Type 0 where
   pub figure-packs : pack figure1 ≡ answer figure1Map
   pub e-cross-12 : crossOf figure1Map 12 ≡ answer 15
   pub f-cross-1 : crossOf figure1Map 1 ≡ answer 4
-  pub g-turn-12 : turnOf figure1Map 12 ≡ answer 16
-  pub h-turn-28 : turnOf figure1Map 28 ≡ answer 0
+  pub g-turn-12 : turnOf figure1Map 12 ≡ answer (unsigned 16)
+  pub h-turn-28 : turnOf figure1Map 28 ≡ answer (record { value = 1; sign = true })
   pub i-point-16 : pointOf figure1Map 16 ≡ answer 5
   pub j-point-1 : pointOf figure1Map 1 ≡ answer 1
   pub k-area-23 : areaOf figure1Map 23 ≡ answer 1

@@ -10,17 +10,23 @@ own-mate-in-requires c κs = search needs
 add-t9 : tie.Need-add-t9
 add-t9 c = search needs
 
-turn-in-requires : tie.Need-turn-in-requires
-turn-in-requires c κs = search needs
-
-turn-back-in-requires : tie.Need-turn-back-in-requires
-turn-back-in-requires c κs = search needs
-
 step-in-requires : tie.Need-step-in-requires
 step-in-requires c κs = search needs
 
-add-t15 : tie.Need-add-t15
-add-t15 c = search needs
+turn-to-requires : tie.Need-turn-to-requires
+turn-to-requires c κs = search needs
+
+back-in-requires : tie.Need-back-in-requires
+back-in-requires c κs = search needs
+
+turn-back-to-requires : tie.Need-turn-back-to-requires
+turn-back-to-requires c κs = search needs
+
+step-in-requires-2 : tie.Need-step-in-requires-2
+step-in-requires-2 c κs = search needs
+
+add-t19 : tie.Need-add-t19
+add-t19 c = search needs
 
 point-in-requires : tie.Need-point-in-requires
 point-in-requires c κs = search needs
@@ -52,10 +58,12 @@ found-at-spec =
     (tie.spec
     own-mate-in-requires
     add-t9
-    turn-in-requires
-    turn-back-in-requires
     step-in-requires
-    add-t15
+    turn-to-requires
+    back-in-requires
+    turn-back-to-requires
+    step-in-requires-2
+    add-t19
     point-in-requires
     area-in-requires
     returns

@@ -2,7 +2,7 @@
 use Rattle.format.specs.Calls.{turnBackOf}
 use Rattle.opening.proofs.Passed.{place-least}
 use Rattle.walking.proofs.Checked.{place-position}
-use Rattle.moving.proofs.Moved.{move-declines, move-answers}
+use Rattle.moving.proofs.Moved.{reply-declines, reply-answers}
 use borrow.Author.Needs.{needs}
 use Rattle.moving.proofs.moves.turn_back.Statement.{statement}
 use Rattle.moving.proofs.moves.turn_back.Tie as tie
@@ -12,19 +12,22 @@ place-refusal-requires c κs = search needs
 
 returns : tie.Need-returns
 unfolding turnBackOf
-returns c = search move-declines
+returns c = search reply-declines
 
-sub-turn-back-from : tie.Need-sub-turn-back-from
-sub-turn-back-from c = search place-least
+sub-p : tie.Need-sub-p
+sub-p c = search place-least
 
-turn-back-from-requires : tie.Need-turn-back-from-requires
-turn-back-from-requires c κs = search place-position
+back-at-requires : tie.Need-back-at-requires
+back-at-requires c κs = search place-position
+
+turn-back-to-requires : tie.Need-turn-back-to-requires
+turn-back-to-requires c κs = search (place-position, needs)
 
 returns-2 : tie.Need-returns-2
 unfolding turnBackOf
-returns-2 c = search move-answers
+returns-2 c = search reply-answers
 
 pub turn-back-spec : {M : Type 1} → statement M
 turn-back-spec =
     tie.close
-    (tie.spec place-refusal-requires returns sub-turn-back-from turn-back-from-requires returns-2)
+    (tie.spec place-refusal-requires returns sub-p back-at-requires turn-back-to-requires returns-2)
