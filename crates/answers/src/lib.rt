@@ -7,6 +7,8 @@
 //
 // Conventions. A place never serves as a point or an area number, so each kind has a type of its own. The number of the check that
 // declines stands in Declined. specs/Means.antt says what each case means.
+#![tactic(auto)]
+
 mod cases;
 mod numbers;
 

@@ -1,10 +1,10 @@
 // The numbers that calls are given and answer. "A place never serves as a point or an area number."
 
-#[derive(Drop)]
+#[derive(Clone, Copy)]
 pub struct Place(pub usize);
 
-#[derive(Drop)]
+#[derive(Clone, Copy)]
 pub struct Point(pub usize);
 
-#[derive(Drop)]
+#[derive(Clone, Copy)]
 pub struct Area(pub usize);

@@ -18,6 +18,8 @@
 // contracts cite are in specs/; the laws that a caller may use are in proofs/Laws.antt and
 // proofs/Stores.antt, and no others, and in proofs/Letters.antt of the word that three strings spell. Read as brackets,
 // the strings are matched by the crates `matching` and, all at once, `pairing`.
+#![tactic(auto)]
+
 mod blocks;
 mod numbers;
 mod read;

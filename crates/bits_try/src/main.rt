@@ -5,6 +5,8 @@
 // are balanced; what a scan from n / 2 on leaves, to n with n / 8 that wait, and over n % 24 brackets with n / 2;
 // whether entry 8 of a list of sevens is 0 once the first n are cleared. stdin has the string, and stdout what
 // expected.py works out.
+#![tactic(auto)]
+
 use libc::{STDIN_FILENO, STDOUT_FILENO};
 
 fn main() {

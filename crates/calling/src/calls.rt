@@ -19,7 +19,7 @@ use words::Family;
 const GONE_ROUND: usize = 32768;
 
 // What a call answers at a place: a move another place, a turn also whether it has gone round, the others its point or its area.
-#[derive(Drop)]
+#[derive(Clone, Copy)]
 pub enum Found {
     To(Place),
     Turned(Turn),

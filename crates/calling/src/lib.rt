@@ -11,6 +11,8 @@
 //
 // The source is document 01, "The drawing's book" and "Moves". The definitions that the contract cites are those of the crate
 // `format`, specs/Calls and specs/Sessions, and specs/Told.antt.
+#![tactic(auto)]
+
 mod calls;
 mod codes;
 

@@ -6,6 +6,8 @@
 // them; its last third is used as a stack and left 0, and nothing else of it changes.
 //
 // The definitions that the contracts cite are in specs/ and in the crate `touring`.
+#![tactic(auto)]
+
 mod find;
 
 pub use find::{Found, find_crossing};

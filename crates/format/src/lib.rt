@@ -5,6 +5,8 @@
 //     LONGEST                the length of the longest map
 //     MOST_BORDERS           m at most
 //     MOST_ENDS              2m at most
+#![tactic(auto)]
+
 pub const AT_M: usize = 0;
 
 pub const AT_N: usize = 2;

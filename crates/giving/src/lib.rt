@@ -11,6 +11,8 @@
 //
 // The definitions that the contracts cite are those of the crate `answers`, specs/Lent, which says what memory holds after a call;
 // specs/Desk has what packing returns in one number.
+#![tactic(auto)]
+
 mod packed;
 mod slots;
 

@@ -8,6 +8,8 @@
 // Few sides are crossed by walking through the bytes. For more, one pass over the map finds what lies across every place, and
 // those of the area are gathered in rising order: its walk meets them in that order (`walk_gather` of `words`). The source is
 // document 02, 3/14 and 4/14; specs/Landed.antt says what the lists hold, by the definition of the crate `format`.
+#![tactic(auto)]
+
 mod across;
 
 pub use across::land;

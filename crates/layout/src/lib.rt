@@ -17,6 +17,8 @@
 //
 // The source is document 01, "Tour and packed map", and document 02, 6/14. The definitions that the
 // contracts cite are those of the crate `format`.
+#![tactic(auto)]
+
 mod header;
 mod strings;
 

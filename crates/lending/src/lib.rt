@@ -8,6 +8,8 @@
 // Conventions. No function asks anything of its caller: each states its answer, and what the memory lent holds after it, for
 // every input. The definitions that the contracts cite are those of the crate `answers`, specs/Lent; proofs/ has the laws for those
 // who fill a list.
+#![tactic(auto)]
+
 mod lists;
 mod numbers;
 

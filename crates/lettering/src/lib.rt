@@ -9,6 +9,8 @@
 // word, the letters put are its map as soon as all are put: the laws are in proofs/Keeping.antt and proofs/Ending.antt.
 //
 // The definitions that the contracts cite are in specs/ and in the crate `format`.
+#![tactic(auto)]
+
 mod put;
 
 pub use put::{Strings, begin_map, put_letter};

@@ -1,5 +1,7 @@
 // Runs packing and opening at their limits, and writes a line for each: what was tried, the number of the refusal or 0, and
 // the length of the map or its borders and points.
+#![tactic(auto)]
+
 use answers::{Opened, Packed};
 use format::{AT_AREAS, AT_M, AT_N, LONGEST};
 use libc::STDOUT_FILENO;

@@ -15,6 +15,8 @@
 // The source is document 01, "Listing", and document 02, 5/14. The definitions that the contracts cite
 // are those of the crate `text`, whose specs/Running has the running count, and what is shown of it for every map
 // listed (`running_rank`).
+#![tactic(auto)]
+
 mod line;
 mod lines;
 mod print;

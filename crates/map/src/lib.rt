@@ -16,6 +16,8 @@
 // 8/14 for the turns, and 01's table, rows 8 to 15, with document 02, 6/14, for the checks. The
 // definitions that the contracts cite are those of the crate `format`. The checks are those of `opening`;
 // what is asked at a place is in the crate `moving`.
+#![tactic(auto)]
+
 mod numbers;
 mod search;
 

@@ -12,6 +12,8 @@
 // The strings are B and B* of document 01, "Tour and packed map". The definitions that the contracts
 // cite are those of the crates `bits` and `words`; specs/Scans.antt says what a scan leaves. The laws
 // that a caller may use are in proofs/Laws.antt, and no others.
+#![tactic(auto)]
+
 mod backwards;
 mod bytes;
 mod forwards;

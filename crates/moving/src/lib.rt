@@ -9,6 +9,8 @@
 //
 // The source is document 01, "Moves", with document 02, 8/14, for the answers, and 01's table, rows 8 to 13, with document 02, 6/14,
 // for the checks. The definitions that the contracts cite are those of the crate `format`; the checks are those of `opening`.
+#![tactic(auto)]
+
 mod moves;
 mod numbers;
 

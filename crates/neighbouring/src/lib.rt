@@ -8,6 +8,8 @@
 // One loop goes over the areas across the sides, in the list that the crate `landing` fills, and flags each. The flags, one for
 // each area, stand on the stack. The source is document 02, 3/14; the definition that the contract cites is that of the crate
 // `format`.
+#![tactic(auto)]
+
 mod across;
 
 pub use across::neighbours_at;

@@ -7,7 +7,7 @@ use answers::{Area, Point};
 use words::Family;
 
 // A point or an area, by its number.
-#[derive(Drop)]
+#[derive(Clone, Copy)]
 pub enum Cell {
     Point(Point),
     Area(Area),

@@ -12,6 +12,8 @@
 // The source is document 01: "Tour and packed map" for the bytes, "Moves" for the calls, the table's rows
 // 8 to 15 and document 02, 6/14, for the checks. The definitions that the contracts cite are those of the
 // crates `format` and `answers`; specs/Checks.antt says which of them run in which function.
+#![tactic(auto)]
+
 mod cells;
 mod checks;
 mod numbers;

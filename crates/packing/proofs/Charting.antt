@@ -80,7 +80,7 @@ module _ (ts ms : List ℕ) (s : ℕ) (six : PassesSix (lent ts ms s)) where
                 record {
                   room = omega (arith, B.room, O.same_length, half);
                   small = omega (arith, six.lengths.most, half);
-                  below = λ p l. rw (T.at p l) (M.end_Below p l);
+                  below = λ p l. rw (T.at p l) (M.end_below p l);
                 };
             zero = λ e l. O.after (2 * (2 * length ms) + e) (omega (arith, half)) ∙ B.zero (2 * (2 * length ms) + e) (omega (arith, half));
           }

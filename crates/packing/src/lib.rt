@@ -9,6 +9,8 @@
 // Check 2 is here, 1, 3 and 4 are in the crate `checking`, 5 and the points for 6 in `reaching`, 7 is in `crossing`,
 // the tour in `touring`, the bytes in `writing`. The definitions that the contracts
 // cite are in specs/ and in the crates `drawing` and `format`.
+#![tactic(auto)]
+
 mod checks;
 
 pub use checks::pack;

@@ -11,6 +11,8 @@
 // `pair` asks that both families are balanced: whoever calls has checked. What it asks and what the lists hold is said in
 // specs/Paired.antt, of the word that the strings spell, by the definitions of the crates `bits` and `words`. The crate `matching`
 // answers for one bracket at a time.
+#![tactic(auto)]
+
 mod pass;
 
 pub use pass::pair;

@@ -11,6 +11,8 @@
 // The sources are document 01, "Listing": the program "reads a drawing from standard input"; and document 02, 1/14:
 // "A program reads a map's bytes from standard input and prints it". The crate `text`, specs/Heard, says what a program prints where
 // its input was not read to its end, and proofs/Ending.antt has the laws for both cases.
+#![tactic(auto)]
+
 mod streams;
 
 pub use streams::{Input, print, read_input};

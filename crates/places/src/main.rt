@@ -1,5 +1,7 @@
 // Reads the text of a drawing from standard input and prints the places of its map, or the line of a
 // refusal (document 01, "Listing").
+#![tactic(auto)]
+
 ghost use Rattle.std.specs.Prelude.{◌≡◌, length};
 ghost use Rattle.answers.specs.Lent.{laid};
 ghost use Rattle.text.specs.Listing.{refused_line, places_of};

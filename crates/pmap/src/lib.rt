@@ -20,6 +20,8 @@
 // The functions only pass on what the crates `opening`, `map`, `rating`, `sessions`, `suggesting`, `packing` and `unpacking`
 // answer. The definitions that the contracts cite are those of the theory: `format` and `tariff` for the calls, `answers` for the
 // status and what the memory lent holds after a call.
+#![tactic(auto)]
+
 mod areas;
 mod desk;
 mod places;

@@ -11,6 +11,8 @@
 // each place of a map.
 //
 // The source is document 02, 4/14; the definitions that the contracts cite are those of the crate `tariff`.
+#![tactic(auto)]
+
 mod entries;
 mod running;
 

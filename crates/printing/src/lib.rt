@@ -13,6 +13,8 @@
 // document 02, 1/14: "right-aligned in 5 columns". The definitions that the contracts cite are those of the crate
 // `text`, and `Wrote` in specs/Writing.antt. proofs/Writes.antt has the laws for those who put one text after
 // another, proofs/Shown.antt those for what is printed for a map: its text, or the line of opening's refusal.
+#![tactic(auto)]
+
 mod refusal;
 mod write;
 

@@ -8,6 +8,8 @@
 // The source is document 01, "Listing". The definition that the contract cites is `places_of` of the
 // crate `text`. Packing is lent the working list of the longest drawing, 6 * 2,048 entries, and the
 // bytes of the longest map.
+#![tactic(auto)]
+
 mod print;
 
 pub use listing::ROOM;

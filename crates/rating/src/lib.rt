@@ -9,6 +9,8 @@
 // The crate `landing` fills a list with the areas across the sides, in walk order from the area's first place; one loop goes along it
 // and hands on a sum and a count. The source is document 02, 4/14; the definitions that the contracts cite are those of the crate
 // `tariff`.
+#![tactic(auto)]
+
 mod factors;
 mod sides;
 

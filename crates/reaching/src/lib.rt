@@ -9,6 +9,8 @@
 // and it is left as it was. `find_tree` writes its marks and lends them to no search.
 //
 // The definitions that the contracts cite are in specs/ and in the crate `drawing`; 4 is in the crate `checking`.
+#![tactic(auto)]
+
 mod search;
 mod tree;
 

@@ -10,6 +10,8 @@
 //
 // The source is document 01, "Listing", and its table, row 17. What a text denotes is defined in the
 // crate `text`; the crate `answers` says what an answer means, and what the lists hold after it.
+#![tactic(auto)]
+
 mod fields;
 mod lines;
 mod lists;

@@ -10,6 +10,8 @@
 // The contract speaks of the drawing and its book alone (document 01, "The drawing's book"): each status, each answer
 // and the place left are those of the book. The crate `demands`, specs/Rehearsal, says what that is, and what the memory lent holds at
 // the end. That the session on the map is the book's is demand 3, of the crate `demands`.
+#![tactic(auto)]
+
 mod chain;
 
 pub use chain::rehearse;

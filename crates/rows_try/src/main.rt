@@ -1,5 +1,7 @@
 // Runs the examples of document 01's table, rows 1 to 17, and of 20 and 21, and writes for each its number and the number that came:
 // they are the same in every line. Then the drawings of (a) to (c), which are accepted: 0.
+#![tactic(auto)]
+
 use answers::{Area, Count, Opened, Packed, Parsed, Place, PlaceAnswer, Point, Unpacked};
 use format::LONGEST;
 use libc::STDOUT_FILENO;

@@ -1,4 +1,6 @@
 // Reads the bytes of a map from standard input and prints the schedule of its areas, or the line of a refusal (document 02, 1/14).
+#![tactic(auto)]
+
 ghost use Rattle.std.specs.Prelude.{◌≡◌, ◌+◌, length};
 ghost use Rattle.answers.specs.Lent.{laid};
 ghost use Rattle.format.specs.Bytes.{longest};

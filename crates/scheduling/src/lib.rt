@@ -11,6 +11,8 @@
 // found in one pass, and looks up by the area's number. So the time is in proportion to the map and the text, whatever the areas are.
 //
 // The source is document 02, 1/14. The definition that the contract cites is `schedule_of` of the crate `text`.
+#![tactic(auto)]
+
 mod pages;
 mod print;
 mod rows;

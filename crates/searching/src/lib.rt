@@ -8,6 +8,8 @@
 // One loop turns about the point, from its first place, and yields the place by break. Few places are looked at by walking through
 // the bytes; of many the first, and where it does not land there the map is surveyed, once for all of them. The source is document
 // 01, "Moves"; the definition that the contract cites is that of the crate `format`.
+#![tactic(auto)]
+
 mod about;
 
 pub use about::join_at;

@@ -17,6 +17,8 @@
 // The source is document 01, "The drawing's book": "A session is a first number and a list of calls"; "on the
 // packed map too the place passes from call to call as in the book". The crate `format`, specs/Sessions, has the
 // codes and what `session` answers; the crate `answers`, specs/Lent, what the lists hold after it.
+#![tactic(auto)]
+
 mod codes;
 mod runs;
 

@@ -11,6 +11,8 @@
 //
 // The source is document 01, "Moves". The definition that the contract cites is that of the crate
 // `format`.
+#![tactic(auto)]
+
 mod counts;
 mod size;
 

@@ -8,6 +8,8 @@
 //
 // Check 2 is here, 1, 3 and 4 are in the crate `checking`, 21 and the marks in `reaching`. The definitions that the contract
 // cites are in the crates `drawing` and `format`.
+#![tactic(auto)]
+
 mod marks;
 
 pub use marks::suggest;

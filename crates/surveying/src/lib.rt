@@ -16,6 +16,8 @@
 // 01, "Tour and packed map" and "Moves": the area of a place is that of the innermost [ open just before it, its point that of
 // the innermost (. specs/Surveyed.antt says what the lists hold, by the definitions of the crate `words`, of the word that
 // `format` finds in the bytes; proofs/Laws.antt has the laws for those who count in the lists.
+#![tactic(auto)]
+
 mod moves;
 mod pass;
 

@@ -13,6 +13,8 @@
 // goes from the last place down, so that the place noted last for an area is its first. The source is document 01, "Moves".
 // specs/Tallied.antt says what the lists hold, by the definitions with which the calls `sides` and `area_first` answer;
 // proofs/Lookups.antt has the laws for those who look up.
+#![tactic(auto)]
+
 mod counts;
 mod entries;
 

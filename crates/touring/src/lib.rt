@@ -9,6 +9,8 @@
 // The functions are for the crates `crossing`, `writing` and `packing`, which meet what they ask.
 //
 // The definitions that the contracts cite are in specs/ and in the crates `drawing` and `checking`.
+#![tactic(auto)]
+
 mod chart;
 mod work;
 

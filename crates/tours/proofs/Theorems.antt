@@ -36,7 +36,7 @@ pub use Rattle.tours.proofs.Alternate.{Alternates, alternate_few}
 pub tour_once : (D : Drawing) → MeetsAll D → Permutes (ends D) (end_at D)
 tour_once D M =
     record {
-      below = M.end_Below;
+      below = M.end_below;
       injective = λ p q l k e. sym (M.position_end p l) ∙ ap (position_of D) e ∙ M.position_end q k;
     }
 

@@ -14,6 +14,8 @@
 // The source is document 01, "Tour and packed map", and its table, rows 8 to 12 and 16, with document 02,
 // 6/14. The drawing of a word is defined in the crate `format`; the crate `answers` says what an answer means,
 // and what the lists hold after it.
+#![tactic(auto)]
+
 mod ends;
 mod lists;
 

@@ -22,6 +22,8 @@
 // The source is document 01, "Tour and packed map" and "Moves". The definitions that the contracts cite
 // are those of the crate `words`, of the word that `format` finds in the bytes; specs/Positions.antt
 // says what is asked.
+#![tactic(auto)]
+
 mod turning;
 mod word;
 

@@ -13,7 +13,7 @@ ghost use Rattle.walking.specs.Turns.{turn_reply};
 use answers::Place;
 
 // Where a turn leads, and whether it has gone round.
-#[derive(Drop)]
+#[derive(Clone, Copy)]
 pub struct Turn {
     pub place: Place,
     pub round: bool,

@@ -1,5 +1,5 @@
 // A family of brackets: ( ) for the borders of the tree, [ ] for the others.
-#[derive(Drop)]
+#[derive(Clone, Copy)]
 pub enum Family {
     Round,
     Square,

@@ -6,6 +6,8 @@
 // them. The output has room for the longest map, and nothing beyond the map changes.
 //
 // The definitions that the contracts cite are in specs/ and in the crates `format` and `touring`.
+#![tactic(auto)]
+
 mod write;
 
 pub use write::write_map;
