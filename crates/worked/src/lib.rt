@@ -1,3 +1,2 @@
 // A theory crate: definitions in specs/, laws in proofs/, no code.
 #![tactic(auto)]
-
