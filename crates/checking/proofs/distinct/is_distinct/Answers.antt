@@ -1,0 +1,7 @@
+-- `checking::distinct::is_distinct` meets its contract. Assumes nothing.
+use borrow.Author.Rules.{rules}
+use Rattle.lending.proofs.Kept.{restored_all}
+use Rattle.checking.proofs.distinct.is_distinct.Goals as goal
+
+pub returns : goal.returns
+returns c = (search rules, search restored_all)

@@ -1,0 +1,18 @@
+-- `checking::lists::in_range` meets its contract. Assumes nothing.
+use native.Mathlib.Omega.{arith}
+use Rattle.checking.proofs.Scans.{range_start, range_entries, range_marks}
+use Rattle.checking.proofs.lists.in_range.Goals as goal
+
+pub returns-then-larger-start : goal.returns-then-larger-start
+returns-then-larger-start c = range_start _ _ _ c.requires (omega (arith, c.larger.ensures, c.if-larger-start.true))
+
+pub returns-then-entries_fit : goal.returns-then-entries_fit
+returns-then-entries_fit c =
+    let e = c{-before After-entries_fit-} in
+    let t = e.before in
+    range_marks _ _ _ t.before.before.before.before.requires (omega (arith, t.before.larger.ensures, t.if1.false)) _ e.entries_fit.ensures c.if-entries_fit.true _ c.marks_fit.ensures
+
+pub returns-else-entries_fit : goal.returns-else-entries_fit
+returns-else-entries_fit c =
+    let e = c{-before After-entries_fit-} in
+    range_entries _ _ _ e.before.before.before.before.before.requires _ e.entries_fit.ensures c.if-entries_fit.false
