@@ -12,7 +12,11 @@ pub shape_of-work-then-work-h-ne0 : goal.shape_of-work-then-work-h-ne0
 shape_of-work-then-work-h-ne0 c = search seen_length
 
 pub returns-then-work-h-ne0 : goal.returns-then-work-h-ne0
-returns-then-work-h-ne0 c = (search seen_twice, search seen_kept)
+returns-then-work-h-ne0 c =
+    record {
+      decides = search seen_twice;
+      kept = search seen_kept;
+    }
 
 pub bounds-work-h-in-loop-i : goal.bounds-work-h-in-loop-i
 bounds-work-h-in-loop-i c = search seen_room
@@ -24,4 +28,8 @@ pub shape_of-work : goal.shape_of-work
 shape_of-work c = search seen_length
 
 pub returns : goal.returns
-returns c = (search seen_all, search seen_kept)
+returns c =
+    record {
+      decides = search seen_all;
+      kept = search seen_kept;
+    }

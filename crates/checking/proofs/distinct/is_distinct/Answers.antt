@@ -4,4 +4,8 @@ use Rattle.lending.proofs.Kept.{restored_all}
 use Rattle.checking.proofs.distinct.is_distinct.Goals as goal
 
 pub returns : goal.returns
-returns c = (search rules, search restored_all)
+returns c =
+    record {
+      decides = search rules;
+      work_unchanged = search restored_all;
+    }

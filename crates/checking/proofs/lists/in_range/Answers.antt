@@ -7,12 +7,7 @@ pub returns-then-larger-start : goal.returns-then-larger-start
 returns-then-larger-start c = range_start _ _ _ c.requires (omega (arith, c.larger.ensures, c.if-larger-start.true))
 
 pub returns-then-entries_fit : goal.returns-then-entries_fit
-returns-then-entries_fit c =
-    let e = c{-before After-entries_fit-} in
-    let t = e.before in
-    range_marks _ _ _ t.before.before.before.before.requires (omega (arith, t.before.larger.ensures, t.if1.false)) _ e.entries_fit.ensures c.if-entries_fit.true _ c.marks_fit.ensures
+returns-then-entries_fit c = range_marks _ _ _ c.requires (omega (arith, c.larger.ensures, c.if-larger-start.false)) _ c.entries_fit.ensures c.if-entries_fit.true _ c.marks_fit.ensures
 
 pub returns-else-entries_fit : goal.returns-else-entries_fit
-returns-else-entries_fit c =
-    let e = c{-before After-entries_fit-} in
-    range_entries _ _ _ e.before.before.before.before.before.requires _ e.entries_fit.ensures c.if-entries_fit.false
+returns-else-entries_fit c = range_entries _ _ _ c.requires _ c.entries_fit.ensures c.if-entries_fit.false

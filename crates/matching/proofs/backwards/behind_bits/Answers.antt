@@ -13,8 +13,8 @@ returns-then-depth-eq0 c =
 pub loop-k-preserved : goal.loop-k-preserved
 loop-k-preserved c =
     elim c.if-bit-eq0.branch [
-      | then-bit-eq0+else-depth-eq0 w ↦ coming_opens c.loop-k.invariant c.loop-k-test.true c.bit.ensures.0 w.0.taken w.1.left w.2
-      | else-bit-eq0 w ↦ coming_closes c.loop-k.invariant c.loop-k-test.true c.bit.ensures.0 w.0.left w.1
+      | then-bit-eq0+else-depth-eq0 w ↦ coming_opens c.loop-k.invariant c.loop-k-test.true c.bit.ensures.0 w.if-bit-eq0.true w.if-depth-eq0.false w.depth-is
+      | else-bit-eq0 w ↦ coming_closes c.loop-k.invariant c.loop-k-test.true c.bit.ensures.0 w.if-bit-eq0.false w.depth-is
     ]
 
 pub returns : goal.returns

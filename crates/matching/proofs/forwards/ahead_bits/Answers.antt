@@ -14,8 +14,8 @@ returns-then-depth-eq0 c =
 pub loop-q-preserved : goal.loop-q-preserved
 loop-q-preserved c =
     elim c.if-bit-eq0.branch [
-      | then-bit-eq0 w ↦ going_opens c.loop-q.invariant c.loop-q-test.true c.bit.ensures.0 w.0.taken w.1
-      | else-bit-eq0+else-depth-eq0 w ↦ going_closes c.loop-q.invariant c.loop-q-test.true c.bit.ensures.0 w.0.left w.1.left w.2
+      | then-bit-eq0 w ↦ going_opens c.loop-q.invariant c.loop-q-test.true c.bit.ensures.0 w.if-bit-eq0.true w.depth-is
+      | else-bit-eq0+else-depth-eq0 w ↦ going_closes c.loop-q.invariant c.loop-q-test.true c.bit.ensures.0 w.if-bit-eq0.false w.if-depth-eq0.false w.depth-is
     ]
 
 pub returns : goal.returns
