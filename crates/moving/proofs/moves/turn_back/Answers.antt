@@ -1,0 +1,24 @@
+-- `moving::moves::turn_back` meets its contract. Assumes nothing.
+use Rattle.format.specs.Calls.{turn_back_of}
+use Rattle.opening.proofs.Passed.{place_least}
+use Rattle.walking.proofs.Checked.{place_position}
+use Rattle.moving.proofs.Moved.{reply_declines, reply_answers}
+use borrow.Author.Rules.{rules}
+use Rattle.moving.proofs.moves.turn_back.Goals as goal
+
+pub returns-then-k-ne0 : goal.returns-then-k-ne0
+unfolding turn_back_of
+returns-then-k-ne0 c = search reply_declines
+
+pub overflow_sub-p : goal.overflow_sub-p
+overflow_sub-p c = search place_least
+
+pub back_at-requires : goal.back_at-requires
+back_at-requires c = search place_position
+
+pub turn_back_to-back-requires : goal.turn_back_to-back-requires
+turn_back_to-back-requires c = search (place_position, rules)
+
+pub returns : goal.returns
+unfolding turn_back_of
+returns c = search reply_answers

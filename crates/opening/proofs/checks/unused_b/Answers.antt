@@ -1,0 +1,6 @@
+-- `opening::checks::unused_b` meets its contract. Assumes nothing.
+use Rattle.opening.proofs.Rows.{unused_is}
+use Rattle.opening.proofs.checks.unused_b.Goals as goal
+
+pub returns : goal.returns
+returns c = search unused_is

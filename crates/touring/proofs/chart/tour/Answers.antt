@@ -1,0 +1,31 @@
+use Prim.Native.Nat.{◌-◌}
+use Rattle.touring.proofs.Touring.{touring_all, touring_end, touring_entry, touring_index, touring_length, touring_more, touring_narrow, touring_outside, touring_start}
+use Rattle.touring.proofs.chart.tour.Goals as goal
+
+pub overflow_cast-h : goal.overflow_cast-h
+overflow_cast-h c = search touring_narrow
+
+pub loop-p-init : goal.loop-p-init
+loop-p-init c = search touring_start
+
+pub crossed-requires : goal.crossed-requires
+crossed-requires c = search touring_end
+
+pub overflow_cast-h-in-loop-p : goal.overflow_cast-h-in-loop-p
+overflow_cast-h-in-loop-p c = search touring_index
+
+pub bounds-turning-crossed : goal.bounds-turning-crossed
+bounds-turning-crossed c = search touring_entry
+
+pub loop-p-preserved : goal.loop-p-preserved
+loop-p-preserved c = search touring_more
+
+pub shape_of-work : goal.shape_of-work
+shape_of-work c = search touring_length
+
+pub returns : goal.returns
+returns c =
+    record {
+      tours = search touring_all;
+      outside = search touring_outside;
+    }
