@@ -12,7 +12,7 @@
 -- gather P f N == the list of the f x, in order, of the x < N that have P x
 --
 -- P is a test, a function into Bool; "P x" in words is P x ≡ true in a proof. Assumes nothing.
-use Rattle.std.specs.Prelude.{◌≡◌, Bool, true, false, not, ◌&&◌, ◌||◌, List, [], ◌∷◌, ℕ, zero, suc, ◌+◌, eqb}
+use Rattle.std.specs.Prelude.{◌≡◌, Bool, true, false, ◌&&◌, ◌||◌, List, [], ◌∷◌, ℕ, zero, suc, ◌+◌, eqb}
 
 pub record Decides (t : Bool) (P : Type 0) : Type 0 where
   pub sound : t ≡ true → P
