@@ -10,7 +10,7 @@ pub overflow_cast-length : goal.overflow_cast-length
 overflow_cast-length c = search value_all
 
 pub seven-requires : goal.seven-requires
-seven-requires c = pair_values c.args.p c.requires _ _ c.p-in-Crossing-1.given.1
+seven-requires c = pair_values c.args.p c.requires _ _ c.in-Crossing.is
 
 pub returns-in-Length : goal.returns-in-Length
 unfolding leaves
@@ -24,7 +24,7 @@ pub returns-in-Crossing : goal.returns-in-Crossing
 unfolding leaves
 returns-in-Crossing c =
     record {
-      value = c.seven.ensures ∙ sym (ap returned c.p-in-Crossing-1.given.1);
+      value = c.seven.ensures ∙ sym (ap returned c.in-Crossing.is);
       length_after = search rules;
     }
 

@@ -21,7 +21,7 @@ bounds-marks-h c = search marks_room
 
 pub loop-p-preserved : goal.loop-p-preserved
 loop-p-preserved c =
-    writing_more _ _ _ _ _ _ _ c.loop-p.invariant c.loop-p-test.true _ _ _ _ _ _ _ _ _ c.requires.0.1 c.requires.0.2 c.requires.1.0.0
+    writing_more _ _ _ _ _ _ _ c.loop-p.invariant c.loop-p-test.true _ _ _ _ _ _ _ _ _ c.requires.map_value.1 c.requires.map_value.2 c.requires.in_bounds.0
     c.part_a-a.ensures c.bit-mark.ensures.0 c.wide-h.ensures.0 c.wide.ensures.0 c.round_mate-q.ensures c.after.ensures.0 c.after.ensures.1 refl
 
 pub returns : goal.returns
