@@ -1,4 +1,3 @@
-use Prim.Native.Nat.{◌-◌}
 use borrow.Author.Rules.{rules}
 use Rattle.reading.proofs.Numbers.{reading_start, reading_more, reading_stops, reading_over}
 use Rattle.reading.proofs.fields.digits.Goals as goal

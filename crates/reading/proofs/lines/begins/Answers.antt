@@ -1,4 +1,3 @@
-use Prim.Native.Nat.{◌-◌}
 use borrow.Author.Rules.{rules}
 use Rattle.reading.proofs.Rows.{beginning_start, beginning_more, beginning_cut, beginning_differs, beginning_all}
 use Rattle.reading.proofs.lines.begins.Goals as goal
