@@ -3,7 +3,7 @@
 -- family_of t       == the family of a border by its mark: round if it is marked, square if not
 -- in_family D K e   == whether border e is of family K
 -- met_in D K p      == whether the border met at position p is
--- partner_in D K p  == p's partner where its border is of family K, else p: partner-in, partner-out
+-- partner_in D K p  == p's partner where its border is of family K, else p: partner_in_lem, partner_out
 -- word_size        == the word has as many letters as there are ends
 -- seen_is          == what the letter at p is to family K: neither, or by whether p's partner comes before p
 -- seen_out, seen_opens, seen_closes == the three cases

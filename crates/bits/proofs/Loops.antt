@@ -122,25 +122,25 @@ pub ruleset Selected-step = (selected_yes, selected_no, rules)
 
 -- ---- unused bits
 pub record Unused (s : List ℕ) (k at r : ℕ) : Type 0 where
-  pub in_byte_lem : r < 8
+  pub in_byte : r < 8
   pub from : k ≤ 8 * at + r
   pub zero_so_far : (x : ℕ) → k ≤ x → x < 8 * at + r → bit s x ≡ 0
 
 module _ (s : List ℕ) (k : ℕ) where
   pub unused_start : Unused s k (k / 8) (k % 8)
-  unused_start = record { in_byte_lem = omega arith; from = omega arith; zero_so_far = λ x l h. absurd (omega arith) }
+  unused_start = record { in_byte = omega arith; from = omega arith; zero_so_far = λ x l h. absurd (omega arith) }
 
   -- the bits of byte at from bit r on
   pub unused_more : (at r : ℕ) → Unused s k at r → get_or s at 0 < 256 → get_or s at 0 / 2 ^ r ≡ 0 → Unused s k (at + 1) 0
   unused_more at r U l z =
-      let f : field s (8 * at + r) (8 - r) ≡ 0 = sym (field_high s at r (omega (arith, U.in_byte_lem)) l) ∙ z in
+      let f : field s (8 * at + r) (8 - r) ≡ 0 = sym (field_high s at r (omega (arith, U.in_byte)) l) ∙ z in
       record {
-        in_byte_lem = omega arith;
-        from = omega (arith, U.from, U.in_byte_lem);
+        in_byte = omega arith;
+        from = omega (arith, U.from, U.in_byte);
         zero_so_far = λ x h g.
             elim (lt_or_ge x (8 * at + r)) [
               | inl b ↦ U.zero_so_far x h b
-              | inr a ↦ field_has s (8 * at + r) (8 - r) x f a (omega (arith, U.in_byte_lem))
+              | inr a ↦ field_has s (8 * at + r) (8 - r) x f a (omega (arith, U.in_byte))
             ];
       }
 
@@ -149,7 +149,7 @@ module _ (s : List ℕ) (k : ℕ) where
       elim (true_or_false (unused_zero s k)) [
         | inl u ↦
             let z : field s (8 * at + r) (8 - r) ≡ 0 = field_none s (8 * at + r) (8 - r) (λ x h g. unused_zero_has s k x u (omega (arith, U.from))) in
-            absurd (n (field_high s at r (omega (arith, U.in_byte_lem)) l ∙ z))
+            absurd (n (field_high s at r (omega (arith, U.in_byte)) l ∙ z))
         | inr f ↦ sym f
       ]
 

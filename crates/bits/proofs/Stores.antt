@@ -5,7 +5,7 @@
 -- set_bit_here     == the bit that was set is the new one
 -- set_bit_other    == every other bit is as before
 -- set_bit_small    == what was a byte is one
--- digit-.., turned-.. == what changes one byte, and that it fits
+-- digit_.., turned_.. == what changes one byte, and that it fits
 -- Assumes nothing.
 use mathlib.Core.Path.{◌≡◌, sym, ap}
 use mathlib.Core.Logic.{◌≢◌, inl, inr}

@@ -1,10 +1,10 @@
 -- What one pass over each list tells: checks 1 and 3, and how many borders are marked.
 --
 -- lengths_long, lengths_are == what the comparison of lengths says of check 1
--- ranged-.., binary-..      == whether every entry, every mark is in range
+-- ranged_.., binary_..      == whether every entry, every mark is in range
 -- range_start, range_entries, range_marks == what they say of check 3
 -- Marked ms e k    == k of the first e borders are marked
--- marked-..        == from one border to the next, and at the end
+-- marked_..        == from one border to the next, and at the end
 -- Assumes nothing.
 use mathlib.Core.Path.{◌≡◌, sym}
 use mathlib.Core.Bool.{Bool, true, false}

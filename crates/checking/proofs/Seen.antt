@@ -1,7 +1,7 @@
 -- Flags on the entries of the turning list passed: two equal entries meet at a flag.
 --
 -- Seen ts old i w == the first i entries differ, and their ends, and no others, are flagged in w
--- seen-..         == from one entry to the next, and where the pass ends
+-- seen_..         == from one entry to the next, and where the pass ends
 -- Assumes nothing.
 use mathlib.Core.Path.{◌≡◌, sym, ap, ◌∙◌}
 use mathlib.Core.Logic.{◌≢◌, inl, inr}

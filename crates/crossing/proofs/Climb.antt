@@ -3,7 +3,7 @@
 -- pair_below, pair_not  == the smaller number first
 -- opened_is             == a border that stands on the stack
 -- Climbing places k e w i    == border e stands on the stack of k, no lower than place i
--- above-..              == the way up to a border on the stack
+-- above_..              == the way up to a border on the stack
 -- Assumes nothing.
 use mathlib.Core.Path.{◌≡◌, sym, ap, ◌∙◌}
 use mathlib.Core.Logic.{inl, inr}

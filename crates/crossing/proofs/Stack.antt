@@ -1,7 +1,7 @@
 -- The stack in the working list, from one position of the tour to the next.
 --
 -- Nesting ms old p k w  == w is the chart `old` but for its last third, whose first k entries are the stack at position p
--- nesting-..            == what is in range there, from one position to the next, and what is found
+-- nesting_..            == what is in range there, from one position to the next, and what is found
 -- Assumes nothing.
 use mathlib.Core.Path.{◌≡◌, refl, sym, ap, ◌∙◌}
 use mathlib.Core.Logic.{◌≢◌, inl, inr}

@@ -6,14 +6,14 @@
 -- one_form       == no byte string opens both with the count of areas and without it, and what a program gives for a card of the other form
 -- demand_2       == packing writes exactly Turán's three strings, and gives 7 exactly where two unmarked borders alternate; every
 --                   byte string that opens unpacks to a drawing that packs to the same bytes, and unpacking what packing wrote
---                   gives the drawing renumbered. Its parts are demand-2-pack and demand-2-round-trip.
+--                   gives the drawing renumbered. Its parts are demand_2_pack and demand_2_round_trip.
 -- demand_3       == whatever packing answers agrees with the drawing's book: every session, every answer about point and area
 --                   numbers, every factor of an area, one number for one point (area), where turns go round, how many points and
 --                   areas there are, that the card's count is theirs, which numbers they have, and the printed schedule
 -- every_map      == the same of every byte string that opens, with the book of its unpacked drawing
 -- unpacked_agrees == the same of every byte string that opens and whatever unpacking it answers
--- packed_agrees  == the same of the bytes of a drawing that passes 1 to 7. Its parts are demand-3-sessions, demand-3-numbers,
---                   demand-3-factors, same_point, same_area, turn-sign, areas-count, written_count, has-number and schedule-book.
+-- packed_agrees  == the same of the bytes of a drawing that passes 1 to 7. Its parts are demand_3_sessions, demand_3_numbers,
+--                   demand_3_factors, same_point, same_area, turn_sign, areas_count, written_count, has_number_lem and schedule_book.
 -- factor_agrees  == whatever packing answers gives every area the book's factor, for every pair of lists: demand 3's part of 02, 4/14
 -- Assumes nothing.
 use mathlib.Core.Path.{◌≡◌, refl, sym, ap, ◌∙◌, subst}

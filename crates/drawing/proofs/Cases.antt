@@ -73,7 +73,7 @@ pub record Cases : Type 0 where
   -- 0, 1, 2, 1, 0, 2: not 0 and 2, although 0 is met before 1 is
   pub by_second_a : first_crossing (row (2 ∷ 5 ∷ 4 ∷ 1 ∷ 3 ∷ 0 ∷ []) 0) ≡ 1 ∷ 2 ∷ []
   -- 2, 0, 2, 0, 1, 1: the smaller first
-  pub smaller_first_lem : first_crossing (row (5 ∷ 2 ∷ 3 ∷ 4 ∷ 0 ∷ 1 ∷ []) 4) ≡ 0 ∷ 2 ∷ []
+  pub smaller_first : first_crossing (row (5 ∷ 2 ∷ 3 ∷ 4 ∷ 0 ∷ 1 ∷ []) 4) ≡ 0 ∷ 2 ∷ []
   -- a cross goes there, and the next one comes back; asking for the area leaves the place
   pub session_moves : book_session nested 1 (Call.cross ∷ Call.area ∷ Call.cross ∷ [])
       ≡ record { answers = answer (unsigned 4) ∷ answer (unsigned 2) ∷ answer (unsigned 1) ∷ []; place = 1 }
@@ -108,7 +108,7 @@ cases =
       not_the_last = refl;
       by_first_b = refl;
       by_second_a = refl;
-      smaller_first_lem = refl;
+      smaller_first = refl;
       session_moves = refl;
       turns_round = refl;
       in_walk_order = refl;

@@ -3,7 +3,7 @@
 --
 -- LengthsFit, lengths_fit == passes 1: the turning list is twice as long as the marks, and at most 4,096
 -- EntriesFit, entries_fit == the entries are below 2m: what 3 asks where marks and start are not looked at
--- InRange, inRange       == passes 3: entries and start are below 2m, marks are 0 or 1
+-- InRange, in_range       == passes 3: entries and start are below 2m, marks are 0 or 1
 -- Distinct, distinct     == passes 4: no two entries are equal
 -- Linked D S g h         == from end g one comes to end h by turning and by crossing borders of the set S
 -- Joins, joins D S       == the borders of S join all points

@@ -54,7 +54,7 @@ pub record Cases : Type 0 where
   pub loops_apart : marks_refusal (two (1 ∷ 0 ∷ 3 ∷ 2 ∷ [])) 12 ≡ 21
   pub four_first : marks_refusal (two (1 ∷ 1 ∷ 3 ∷ 2 ∷ [])) 12 ≡ 4
   -- a box already sold takes a card of then, and not one of today
-  pub stub_then_lem : refusal_before stub_then ≡ 0
+  pub stub_then : refusal_before stub_then ≡ 0
   pub stub_now : refusal_before stub_map ≡ 9
 
 pub cases : Cases
@@ -76,6 +76,6 @@ cases =
       ring_found = refl;
       loops_apart = refl;
       four_first = refl;
-      stub_then_lem = refl;
+      stub_then = refl;
       stub_now = refl;
     }

@@ -129,9 +129,9 @@ module _ (s : List ℕ) (Q : Passes s) where
   passes_encode h =
       let z = size_in s in
       let a : bytes_of (string_a (word_in s)) ≡ part_a s
-      = ap bytes_of string_a_in ∙ sym (bytes_are (part_a s) (bits_a z) (part_a_small s h) (part_a_length s Q.long) Q.unused_a_lem) in
+      = ap bytes_of string_a_in ∙ sym (bytes_are (part_a s) (bits_a z) (part_a_small s h) (part_a_length s Q.long) Q.unused_a) in
       let b : (K : Family) → bytes_of (string_b K (word_in s)) ≡ part_b K s
-      = λ K. ap bytes_of (string_b_in K) ∙ sym (bytes_are (part_b K s) (bits_b K z) (part_b_small K s h) (part_b_length s Q.long K) (Q.unused_b_lem K)) in
+      = λ K. ap bytes_of (string_b_in K) ∙ sym (bytes_are (part_b K s) (bits_b K z) (part_b_small K s h) (part_b_length s Q.long K) (Q.unused_b K)) in
       rw (a, b round, b square) (parts_are s Q.long h Q.written)
 
 pub opens_encode : (s : List ℕ) → EachBelow 256 s → open_refusal s ≡ 0

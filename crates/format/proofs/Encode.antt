@@ -105,14 +105,14 @@ module _ (z : Size) (w : Word) (F : Fits z w) where
   encode_passes =
       let L = fits_lengths in
       record {
-        header_fits_lem = omega (arith, map_length_lem z w L);
+        header_fits = omega (arith, map_length_lem z w L);
         m_most = rw fits_sized F.m_most;
         n_least = rw fits_sized F.n_least;
         n_most = rw fits_sized F.n_most;
         written = rw fits_sized (areas_of_bytes z w (omega (arith, F.m_most, F.n_least)));
         long = rw fits_sized (map_length_lem z w L);
-        unused_a_lem = rw (part_a_is z w L, fits_sized, ← L.a) (bytes_of_unused (string_a w) (string_a_bits w));
-        unused_b_lem = λ K. rw (part_b_is z w L K, fits_sized, ← L.b K) (bytes_of_unused (string_b K w) (string_b_bits w K));
+        unused_a = rw (part_a_is z w L, fits_sized, ← L.a) (bytes_of_unused (string_a w) (string_a_bits w));
+        unused_b = λ K. rw (part_b_is z w L K, fits_sized, ← L.b K) (bytes_of_unused (string_b K w) (string_b_bits w K));
         ones = rw (part_a_is z w L, fits_sized, ← F.size) (rank_reads w round w.size (omega arith) ∙ F.rounds);
         nested = λ K.
             rw (part_b_is z w L K, fits_sized, ← fits_family K)

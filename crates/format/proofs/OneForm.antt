@@ -45,7 +45,7 @@ module _ (s : List ℕ) where
   sold Q =
       let a : size_fits_before s ≡ true
       = decides_size_before.complete (record {
-        header_fits_lem = omega (arith, Q.header_fits_lem);
+        header_fits = omega (arith, Q.header_fits);
         m_most = Q.m_most;
         n_least = Q.n_least;
         n_most = Q.n_most;
@@ -60,7 +60,7 @@ module _ (s : List ℕ) where
   unfolding open_refusal
   wrong_header l =
       elim (true_or_false (size_fits s)) [
-        | inl e ↦ absurd (omega (arith, ((decides_size s).sound e).header_fits_lem))
+        | inl e ↦ absurd (omega (arith, ((decides_size s).sound e).header_fits))
         | inr e ↦ rw e
       ]
 
@@ -80,7 +80,7 @@ module _ (s : List ℕ) where
             ∙ ap (λ x. unless (not x) 8 (unless (areas_fit s) 20 9)) (sym (eq-eqb (size_in s).m 0 z))
         | inr z ↦
             wrong_length
-            (record { header_fits_lem = omega (arith, long, f.n_least, f.n_most, z); m_most = f.m_most; n_least = f.n_least; n_most = f.n_most })
+            (record { header_fits = omega (arith, long, f.n_least, f.n_most, z); m_most = f.m_most; n_least = f.n_least; n_most = f.n_most })
             (λ q. omega (arith, long, q))
             ∙ ap (λ x. unless (not x) 8 (unless (areas_fit s) 20 9)) (sym (ne_eqb (size_in s).m 0 z))
       ]

@@ -34,14 +34,14 @@ use Rattle.format.specs.Open.{HeaderFits, header_fits, SizeFits, size_fits, Area
 use Rattle.format.specs.Open.{BracketsFit, brackets_fit, open_checks, open_refusal, open_of}
 
 pub record Passes (s : List ℕ) : Type 0 where
-  pub header_fits_lem : header ≤ length s
+  pub header_fits : header ≤ length s
   pub m_most : (size_in s).m ≤ most_borders
   pub n_least : 1 ≤ (size_in s).n
   pub n_most : (size_in s).n ≤ (size_in s).m + 1
   pub written : written_areas s ≡ areas_of (size_in s)
   pub long : length s ≡ map_length (size_in s)
-  pub unused_a_lem : unused_zero (part_a s) (bits_a (size_in s)) ≡ true
-  pub unused_b_lem : (K : Family) → unused_zero (part_b K s) (bits_b K (size_in s)) ≡ true
+  pub unused_a : unused_zero (part_a s) (bits_a (size_in s)) ≡ true
+  pub unused_b : (K : Family) → unused_zero (part_b K s) (bits_b K (size_in s)) ≡ true
   pub ones : rank 1 (part_a s) (bits_a (size_in s)) ≡ bits_b round (size_in s)
   pub nested : (K : Family) → Balanced (brackets (part_b K s)) (bits_b K (size_in s))
 
@@ -61,8 +61,8 @@ brackets_decides s K =
 module _ (s : List ℕ) where
   pub decides_header : (h : ℕ) → Decides (header_fits h s) (HeaderFits h s)
   decides_header h =
-      decides_as (λ t. record { header_fits_lem = t.0.0.0; m_most = t.0.0.1; n_least = t.0.1; n_most = t.1 })
-      (λ r. (((r.header_fits_lem, r.m_most), r.n_least), r.n_most))
+      decides_as (λ t. record { header_fits = t.0.0.0; m_most = t.0.0.1; n_least = t.0.1; n_most = t.1 })
+      (λ r. (((r.header_fits, r.m_most), r.n_least), r.n_most))
       (decides_both
       (decides_both (decides_both (decides_le h (length s)) (decides_le (size_in s).m most_borders)) (decides_le 1 (size_in s).n))
       (decides_le (size_in s).n ((size_in s).m + 1)))
@@ -83,8 +83,8 @@ module _ (s : List ℕ) where
   unfolding unused_fits
   decides_unused =
       decides_as
-      (λ t. record { unused_a_lem = t.0.0; unused_b_lem = by_family (λ K. UnusedZero (part_b K s) (bits_b K (size_in s))) t.0.1 t.1 })
-      (λ r. ((r.unused_a_lem, r.unused_b_lem round), r.unused_b_lem square))
+      (λ t. record { unused_a = t.0.0; unused_b = by_family (λ K. UnusedZero (part_b K s) (bits_b K (size_in s))) t.0.1 t.1 })
+      (λ r. ((r.unused_a, r.unused_b round), r.unused_b square))
       (decides_both
       (decides_both (unused_decides (part_a s) (bits_a (size_in s))) (unused_decides (part_b round s) (bits_b round (size_in s))))
       (unused_decides (part_b square s) (bits_b square (size_in s))))
@@ -118,24 +118,24 @@ module _ (s : List ℕ) where
       let ones : OnesFit s = all 4 (omega arith) in
       let brackets : BracketsFit s = all 5 (omega arith) in
       record {
-        header_fits_lem = size.header_fits_lem;
+        header_fits = size.header_fits;
         m_most = size.m_most;
         n_least = size.n_least;
         n_most = size.n_most;
         written = areas.written;
         long = length.long;
-        unused_a_lem = unused_zero_from (part_a s) (bits_a (size_in s)) unused.unused_a_lem;
-        unused_b_lem = λ K. unused_zero_from (part_b K s) (bits_b K (size_in s)) (unused.unused_b_lem K);
+        unused_a = unused_zero_from (part_a s) (bits_a (size_in s)) unused.unused_a;
+        unused_b = λ K. unused_zero_from (part_b K s) (bits_b K (size_in s)) (unused.unused_b K);
         ones = ones.ones;
         nested = brackets.nested;
       }
 
   pub passes_opens : Passes s → open_refusal s ≡ 0
   passes_opens h =
-      let size : SizeFits s = record { header_fits_lem = h.header_fits_lem; m_most = h.m_most; n_least = h.n_least; n_most = h.n_most } in
+      let size : SizeFits s = record { header_fits = h.header_fits; m_most = h.m_most; n_least = h.n_least; n_most = h.n_most } in
       let unused : UnusedFits s = record {
-        unused_a_lem = (unused_decides (part_a s) (bits_a (size_in s))).sound h.unused_a_lem;
-        unused_b_lem = λ K. (unused_decides (part_b K s) (bits_b K (size_in s))).sound (h.unused_b_lem K);
+        unused_a = (unused_decides (part_a s) (bits_a (size_in s))).sound h.unused_a;
+        unused_b = λ K. (unused_decides (part_b K s) (bits_b K (size_in s))).sound (h.unused_b K);
       } in
       opens_hold.1
       (each_hold (open_checks s) []

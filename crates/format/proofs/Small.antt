@@ -6,7 +6,7 @@
 -- own_small   == an answer is small if it is where the checks pass
 -- move_small  == every number that a call of a session answers is below 32,768, so that bit 15 is left for a sign
 -- first_small, size_small, neighbours_small, joining_small == every answer of a call is below 65,536
--- cross-fits, turn-fits, turn-back-fits, along-fits, point-fits, area-fits, first_fits, size_fits_lem, neighbours-fit, joining-fits
+-- cross_fits, turn_fits, turn_back_fits, along_fits, point_fits, area_fits, first_fits, size_fits_lem, neighbours_fit, joining_fits
 --             == so is an answer that equals one
 -- Assumes nothing.
 use mathlib.Core.Path.{◌≡◌, refl}

@@ -26,7 +26,7 @@ use Rattle.format.specs.Bytes.{EachBelow, header, areas_of, size_in, written_are
 
 -- 8: "under 4 bytes, m over 2,048, or n not 1 to m+1"; 02, 6/14: "refusal 8 wants 6 bytes"
 pub record HeaderFits (h : ℕ) (s : List ℕ) : Type 0 where
-  pub header_fits_lem : h ≤ length s
+  pub header_fits : h ≤ length s
   pub m_most : (size_in s).m ≤ most_borders
   pub n_least : 1 ≤ (size_in s).n
   pub n_most : (size_in s).n ≤ (size_in s).m + 1
@@ -62,8 +62,8 @@ abbrev pub UnusedZero : List ℕ → ℕ → Type 0
 UnusedZero t k = (i : ℕ) → k ≤ i → i < 8 * length t → bit t i ≡ 0
 
 pub record UnusedFits (s : List ℕ) : Type 0 where
-  pub unused_a_lem : UnusedZero (part_a s) (bits_a (size_in s))
-  pub unused_b_lem : (K : Family) → UnusedZero (part_b K s) (bits_b K (size_in s))
+  pub unused_a : UnusedZero (part_a s) (bits_a (size_in s))
+  pub unused_b : (K : Family) → UnusedZero (part_b K s) (bits_b K (size_in s))
 
 unfoldable pub unused_fits : List ℕ → Bool
 unfolding unused_zero part_a part_b size_in

@@ -4,7 +4,7 @@
 -- gathered_start  == before the first
 -- gathered_more   == one side more, and no other before the next position
 -- gathered_end    == after the last
--- Walking         == the same from side to side, along the walk; walking_start, walking-more, walking-end
+-- Walking         == the same from side to side, along the walk; walking_start, walking_more, walking_end
 -- landed_count, landed_most, landed_at, landed_range == how many a filled list has, and what: numbers of areas
 -- landed_take     == its first entries are the landings
 -- Assumes nothing.

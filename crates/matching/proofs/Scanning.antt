@@ -3,7 +3,7 @@
 -- whole d, stuck k  == all are passed and d wait; k are left
 -- scan_none, scan_waits, scan_takes, scan_stuck == over no bracket, and over one
 -- scan_left, scan_depth == it leaves no more than there are, and each bracket adds at most one that waits
--- far go m p        == the position m steps on; far-ahead, far-behind: m more, m less
+-- far go m p        == the position m steps on; far_ahead, far_behind: m more, m less
 -- scan_on, scan_off == a scan of m + k brackets is one of m and, where that passes them all, one of k from there on; else it stops there
 -- Assumes nothing.
 use mathlib.Core.Path.{◌≡◌, refl, sym, ap, ◌∙◌}

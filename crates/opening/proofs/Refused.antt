@@ -1,6 +1,6 @@
 -- Rows 13 to 15 of the table: opening's number, then that of the call's own number, or 0.
 --
--- inRange i n     == i is one of 1 to n
+-- in_range i n     == i is one of 1 to n
 -- in_range_lem, out_of_range, range_has == the test and what it tests
 -- place_refused, place_zero, place_far, place_in == what `place_refusal` answers
 -- cells_points, cells_areas == how many points and areas there are

@@ -79,7 +79,7 @@ fn fill(
 )
     requires { Pairable (word_at a.now n strings.now unread.old) unread.old
         × Begun (word_at a.now n strings.now unread.old)
-        (record { top = top.now; number = number.old; reached = reached.old; opened = opened.old; labels = labels.old; mates = mates.old })
+        (record { top = top.old; number = number.old; reached = reached.old; opened = opened.old; labels = labels.old; mates = mates.old })
         × (2 ≤ length unread.old) × (4096 ≤ length squares.old) × (4096 ≤ length rounds.old) }
     ensures mates_after { mates.new
         ≡ laid (mates_of (word_at a.now n strings.now unread.old)) mates.old }
@@ -114,10 +114,10 @@ fn passed(
     mates: &mut [u16],
 )
     requires { Passable x v p
-        (record { top = top.now; number = number.old; reached = reached.old; opened = opened.old; labels = labels.old; mates = mates.old }) }
+        (record { top = top.old; number = number.old; reached = reached.old; opened = opened.old; labels = labels.old; mates = mates.old }) }
     ensures { Passes x v p
         (record {
-          top = top.entry.now;
+          top = top.old;
           number = number.old;
           reached = reached.old;
           opened = opened.old;
@@ -125,7 +125,7 @@ fn passed(
           mates = mates.old;
         })
         (record {
-          top = top.exit.now;
+          top = top.new;
           number = number.new;
           reached = reached.new;
           opened = opened.new;

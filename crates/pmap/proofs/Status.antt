@@ -1,7 +1,7 @@
 -- A status of 0 is success: no call declines with the number 0.
 --
 -- own-tells  == so of a call's own answer after its checks
--- move-tells, first-tells, size-tells, neighbours-tells, factor-tells, joining-tells, open-tells, session-tells, pack-tells,
+-- move_tells, first_tells, size_tells, neighbours_tells, factor_tells, joining_tells, open_tells, session_tells, pack_tells,
 -- unpack_tells == so of every call
 -- Assumes nothing.
 use mathlib.Core.Path.{◌≡◌, refl}

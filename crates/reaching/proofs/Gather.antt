@@ -1,7 +1,7 @@
 -- The ends of one point, flagged and queued one after the other.
 --
 -- Gathering ts h w k at v r == from w and the end h the walk has come to `at`, and v queues r ends
--- gathering-..     == from one end to the next, and when it is back
+-- gathering_..     == from one end to the next, and when it is back
 -- Assumes nothing.
 use mathlib.Core.Path.{◌≡◌, refl, ap, ◌∙◌}
 use mathlib.Core.Logic.{◌⊎◌, inl, inr}

@@ -3,7 +3,7 @@
 -- blank_whole      == in a blank list no point is flagged in part
 -- Searching ts m S v w k n i == k ends of n points are reached, and the borders of the first i were looked across; v is w as it began
 -- spread_none      == without borders
--- search-..        == from one end to the next, and when all are done: what is found, whatever marks the drawing has
+-- search_..        == from one end to the next, and when all are done: what is found, whatever marks the drawing has
 -- joins_within     == what a set joins, a larger set joins
 -- Assumes nothing.
 use mathlib.Core.Path.{◌≡◌, refl, sym, ap, ◌∙◌}

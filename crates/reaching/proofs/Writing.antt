@@ -1,7 +1,7 @@
 -- Marks written one after the other.
 --
 -- Copied w from e old ms == the first e marks of ms are those that stand in w, and there are as many as in old
--- copied-..         == from one mark to the next, and at the last
+-- copied_..         == from one mark to the next, and at the last
 -- Assumes nothing.
 use mathlib.Core.Path.{◌≡◌, refl, sym, ◌∙◌}
 use mathlib.Core.Logic.{inl, inr}

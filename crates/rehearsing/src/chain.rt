@@ -17,8 +17,8 @@ pub fn rehearse(
     answers: &mut [u16],
 ) -> Rehearsed
     ensures { Rehearses (lent turning.now marks.now start) first.0 calls.now result
-        (record { work = work.entry.now; out = out.old; statuses = statuses.old; answers = answers.old })
-        (record { work = work.exit.now; out = out.new; statuses = statuses.new; answers = answers.new }) }
+        (record { work = work.old; out = out.old; statuses = statuses.old; answers = answers.old })
+        (record { work = work.new; out = out.new; statuses = statuses.new; answers = answers.new }) }
 {
     let packed = packing::pack(turning, marks, start, work, out);
     match packed {

@@ -26,9 +26,9 @@ pub record Cases : Type 0 where
   pub outside : ran_of triangle_map 70000 (0 ∷ []) 1 1 ≡ answer (record { answers = refused 13 ∷ []; place = 70000 })
   pub closed : ran_of (0 ∷ 0 ∷ 0 ∷ 0 ∷ []) 1 (6 ∷ []) 0 0 ≡ refused 8
   pub short : ran_of triangle_map 1 (6 ∷ []) 1 0 ≡ refused 2
-  pub no_call_lem : ran_of triangle_map 1 (0 ∷ 6 ∷ []) 2 2 ≡ refused 255
+  pub no_call : ran_of triangle_map 1 (0 ∷ 6 ∷ []) 2 2 ≡ refused 255
 
 pub cases : Cases
 unfolding ran_of call_of number_of value_of leaves
 cases =
-    record { six = refl; round = refl; round_statuses = refl; round_answers = refl; outside = refl; closed = refl; short = refl; no_call_lem = refl }
+    record { six = refl; round = refl; round_statuses = refl; round_answers = refl; outside = refl; closed = refl; short = refl; no_call = refl }

@@ -3,7 +3,7 @@
 -- landings_length == one for each side
 -- landings_each   == what holds of the area across every side holds of each of them
 -- landings_long   == in a word there are as many as the area has places
--- landings_in_lem     == landings-each, in a word that is balanced in both families
+-- landings_in_lem     == landings_each, in a word that is balanced in both families
 -- landings_areas  == on a map that opens they are numbers of its areas
 -- landings_few    == and no more than it has places
 -- Assumes nothing.

@@ -2,9 +2,9 @@
 --
 -- crossed_marked, crossed_below, crossed_not == the end across a marked border, or the end itself
 -- Touring ts ms s old h p w == the first p ends of the tour stand in w, and h is the next
--- touring-..       == from one end to the next, and at the end
+-- touring_..       == from one end to the next, and at the end
 -- Telling places old p w == of the first p positions w says which are second, and the last third which borders were met
--- telling-..       == from one position to the next, and at the end
+-- telling_..       == from one position to the next, and at the end
 -- Assumes nothing.
 use mathlib.Core.Path.{◌≡◌, refl, sym, ap, ◌∙◌}
 use mathlib.Core.Logic.{inl, inr}

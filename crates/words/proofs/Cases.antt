@@ -36,7 +36,7 @@ pub record Cases : Type 0 where
   pub sides : size (seen square triangle) 6 2 ≡ 3
   -- the last position of point 1 is the ( that closes at the end
   pub last_opening : is_last (seen round stub) 2 0 ≡ true
-  pub first_position_lem : is_first (seen round stub) 0 ≡ true
+  pub first_position : is_first (seen round stub) 0 ≡ true
 
 pub cases : Cases
 unfolding mate_in step back number first size is_last is_first seen
@@ -51,5 +51,5 @@ cases =
       first_inside = refl;
       sides = refl;
       last_opening = refl;
-      first_position_lem = refl;
+      first_position = refl;
     }

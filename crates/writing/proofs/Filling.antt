@@ -1,6 +1,6 @@
 -- The word of the chart: its letters and its counts.
 --
--- round-..         == whether a letter is round
+-- round_..         == whether a letter is round
 -- chart_counted    == the counts of the word are those of m and n
 -- closing_is       == whether a letter closes
 -- Assumes nothing.
