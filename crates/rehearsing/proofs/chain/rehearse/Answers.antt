@@ -5,27 +5,43 @@ use Rattle.drawing.specs.Drawing.{lent}
 use Rattle.rehearsing.proofs.Chained.{Packing, map_within, session_rehearsed, crossing_rehearsed, declined_rehearsed}
 use Rattle.rehearsing.proofs.chain.rehearse.Goals as goal
 
--- what packing ensures
-packing : (c : tie.After-pack)
-    → let a = c.before.before.before.before.before.before.before.before.before.before.args in
-    Packing (lent a.turning.now a.marks.now a.start)
-    (record { work = a.work.now; out = a.out.now; statuses = a.statuses.now; answers = a.answers.now })
-    c.pack.new.1.1.1.0 c.pack.new.1.1.1.1.0 c.pack.result
-packing c = record { packs = c.pack.ensures }
-
 pub slice_bounds-session-end : goal.slice_bounds-session-end
-slice_bounds-session-end c = map_within (packing c{-before After-known_told-}) _ c.packed-1.given.1
+slice_bounds-session-end c =
+    let P : Packing (lent c.args.turning.now c.args.marks.now c.args.start)
+    (record { work = c.args.work.now; out = c.args.out.now; statuses = c.args.statuses.now; answers = c.args.answers.now })
+    c.pack-packed.new.work c.pack-packed.new.out c.pack-packed.result
+    = record { packs = c.pack-packed.ensures } in
+    map_within P _ c.in-Length.is
 
 pub slice_bounds-session-end-in-Length : goal.slice_bounds-session-end-in-Length
-slice_bounds-session-end-in-Length c = sym (length-take-le _ _ (map_within (packing c{-before After-known_told-}) _ c.packed-1.given.1))
+slice_bounds-session-end-in-Length c =
+    let P : Packing (lent c.args.turning.now c.args.marks.now c.args.start)
+    (record { work = c.args.work.now; out = c.args.out.now; statuses = c.args.statuses.now; answers = c.args.answers.now })
+    c.pack-packed.new.work c.pack-packed.new.out c.pack-packed.result
+    = record { packs = c.pack-packed.ensures } in
+    sym (length-take-le _ _ (map_within P _ c.in-Length.is))
 
 pub returns-in-Length : goal.returns-in-Length
 returns-in-Length c =
-    session_rehearsed (packing c{-before After-slice_known8-}) _ _ _ c.packed-1.given.1
-    c.session-ran.result _ _ c.session-ran.ensures.result_value c.session-ran.ensures.statuses_after.0 c.session-ran.ensures.statuses_after.1
+    let P : Packing (lent c.args.turning.now c.args.marks.now c.args.start)
+    (record { work = c.args.work.now; out = c.args.out.now; statuses = c.args.statuses.now; answers = c.args.answers.now })
+    c.pack-packed.new.work c.pack-packed.new.out c.pack-packed.result
+    = record { packs = c.pack-packed.ensures } in
+    session_rehearsed P _ _ _ c.in-Length.is
+    c.session-ran.result _ _ c.session-ran.ensures.result_value c.session-ran.ensures.statuses_after c.session-ran.ensures.answers_after
 
 pub returns-in-Crossing : goal.returns-in-Crossing
-returns-in-Crossing c = crossing_rehearsed (packing c{-before After-known_told2-}) _ _ _ _ c.packed-in-Crossing-1.given.1
+returns-in-Crossing c =
+    let P : Packing (lent c.args.turning.now c.args.marks.now c.args.start)
+    (record { work = c.args.work.now; out = c.args.out.now; statuses = c.args.statuses.now; answers = c.args.answers.now })
+    c.pack-packed.new.work c.pack-packed.new.out c.pack-packed.result
+    = record { packs = c.pack-packed.ensures } in
+    crossing_rehearsed P _ _ _ _ c.in-Crossing.is
 
 pub returns-in-Declined : goal.returns-in-Declined
-returns-in-Declined c = declined_rehearsed (packing c{-before After-known_told3-}) _ _ _ c.packed-in-Declined-1.given.1
+returns-in-Declined c =
+    let P : Packing (lent c.args.turning.now c.args.marks.now c.args.start)
+    (record { work = c.args.work.now; out = c.args.out.now; statuses = c.args.statuses.now; answers = c.args.answers.now })
+    c.pack-packed.new.work c.pack-packed.new.out c.pack-packed.result
+    = record { packs = c.pack-packed.ensures } in
+    declined_rehearsed P _ _ _ c.in-Declined.is
