@@ -51,18 +51,14 @@ fn one_too_many(rt: &impl Print) -> io::Result<()> {
 
 // The turning list. Border e has its even end at the one point, and its odd end there too or at a point of its own.
 fn fill_turning(turning: &mut [u16], kind: usize) {
-    let mut h = 0;
-    while h < turning.len() {
+    for h in 0..turning.len() {
         turning[h] = entry(kind, h);
-        h += 1;
     }
 }
 
 fn fill_marks(marks: &mut [u8], kind: usize) {
-    let mut e = 0;
-    while e < marks.len() {
+    for e in 0..marks.len() {
         marks[e] = if dangles(kind, e) { 1 } else { 0 };
-        e += 1;
     }
 }
 

@@ -11,13 +11,14 @@ pub struct Input {
     pub next: isize,
 }
 
-// Fills `bytes` from a reader until the input ends or `bytes` is full. `next` is 0 where the input ended, and
+// Fills `bytes` from the reader until the input ends or `bytes` is full. `next` is 0 where the input ended, and
 // where `bytes` is full and nothing more is read; else the input was not read to its end: a read failed.
 pub fn read_input<R: Read>(from: &mut R, bytes: &mut [u8]) -> Input
     ensures fits { result.got ≤ length bytes.new }
     ensures prefix_len { result.got ≡ length (take result.got bytes.new) }
     ensures next_value { result.got ≡ length bytes.new → result.next ≡ pos 0 }
-    ensures read { result.next ≡ pos 0 → Consumes (R.remaining from.old) (R.remaining from.new) (take result.got bytes.new) }
+    ensures bytes { result.next ≡ pos 0 →
+        Consumes (R.remaining from.old) (R.remaining from.new) (take result.got bytes.new) }
     ensures end { result.next ≡ pos 0 → result.got < length bytes.new → IsAtEnd (R.remaining from.new) }
 {
     let got = read_full(from, bytes);
@@ -30,11 +31,11 @@ pub fn read_input<R: Read>(from: &mut R, bytes: &mut [u8]) -> Input
     }
 }
 
-// Writes a text; where that can't be done, says so to the other writer, after the program's name.
-pub fn print<O: Write, E: Write>(to: &mut O, said: &mut E, text: &[u8], name: &[u8]) {
-    if to.write_all(text).is_err() {
-        let _ = said.write_all(name);
-        let _ = said.write_all(b": standard output can't be written\n");
+// Writes a text to `output`; where that can't be done, says so to `errors`, after the program's name.
+pub fn print<O: Write, E: Write>(output: &mut O, errors: &mut E, text: &[u8], name: &[u8]) {
+    if output.write_all(text).is_err() {
+        let _ = errors.write_all(name);
+        let _ = errors.write_all(b": standard output can't be written\n");
     }
 }
 
@@ -42,7 +43,7 @@ pub fn print<O: Write, E: Write>(to: &mut O, said: &mut E, text: &[u8], name: &[
 fn read_full<R: Read>(from: &mut R, bytes: &mut [u8]) -> usize
     ensures fits { result ≤ length bytes.new }
     ensures prefix_len { result ≡ length (take result bytes.new) }
-    ensures read { Consumes (R.remaining from.old) (R.remaining from.new) (take result bytes.new) }
+    ensures bytes { Consumes (R.remaining from.old) (R.remaining from.new) (take result bytes.new) }
 {
     let mut done = 0;
     while done < bytes.len() {
@@ -57,7 +58,7 @@ fn read_full<R: Read>(from: &mut R, bytes: &mut [u8]) -> usize
 
 // `read_full` stops where the input ends and where a read fails: one read more tells them apart.
 fn read_more<R: Read>(from: &mut R) -> isize
-    ensures read { result ≡ pos 0 → Consumes (R.remaining from.old) (R.remaining from.new) (take 0 []) }
+    ensures bytes { result ≡ pos 0 → Consumes (R.remaining from.old) (R.remaining from.new) [] }
     ensures end { result ≡ pos 0 → IsAtEnd (R.remaining from.new) }
 {
     let mut more = [0u8; 1];
