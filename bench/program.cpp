@@ -87,9 +87,9 @@ void show_program(size_t m)
     for (int k = 0; k < ALL_KINDS; k++) {
         write_text(make_map(kind(k), m));
         std::printf("%-12s", kind_names[k]);
-        show("target/bin/places");
+        show("crates/places/out/places");
 #ifdef BEFORE
-        show(BEFORE "/target/bin/places");
+        show(BEFORE "/crates/places/out/places");
 #endif
         std::printf("\n");
     }

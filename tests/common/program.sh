@@ -1,6 +1,6 @@
 # Sourced by the test of a program, after functions.sh: what every program is held to. The caller has set `name`, the program's.
 
-program=target/bin/$name
+program=crates/$name/out/$name
 mkdir -p "$work" || exit 1
 
 # ./NAME on every example, byte for byte; from another folder; with little stack.
@@ -19,12 +19,13 @@ try_examples() { # INPUT-ENDING OUTPUT-ENDING
     check $? "./$name needs more than 1 MiB of stack"
 }
 
-# What ./NAME says of its progress: as many crates as rt proves.
+# What ./NAME says of its progress: as many crates as rt proves. It is built, so that an rt that does nothing is enough here.
 try_progress() { # INPUT
     local told counted
+    mkdir -p "$work/idle" && printf '#!/bin/sh\n' >"$work/idle/rt" && chmod +x "$work/idle/rt"
     touch -d @0 "$program"
-    told=$("./$name" <"$1" 2>&1 >/dev/null | sed -n 's/.*once: \([0-9]*\) crates.*/\1/p')
-    counted=$(rt check "$name" 2>&1 | sed -n 's/^rt: ok, \([0-9]*\) crates proved.*/\1/p')
+    told=$(PATH=$work/idle:$PATH "./$name" <"$1" 2>&1 >/dev/null | sed -n 's/.*once: \([0-9]*\) crates.*/\1/p')
+    counted=$(rt ci "$name" 2>&1 | grep -cE '^rt: [a-z0-9_]+ (proved$|is kept:)')
     [ -n "$told" ] && [ "$told" = "$counted" ]
     check $? "./$name counts $told crates, and rt proves $counted"
 }

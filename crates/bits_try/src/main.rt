@@ -7,65 +7,65 @@
 // expected.py works out.
 #![tactic(auto)]
 
-use libc::{STDIN_FILENO, STDOUT_FILENO};
+use std::io::{self, Read};
 
-fn main() {
+fn main(rt: HostRuntime) -> io::Result<()> {
     let mut s = [0u8; 512];
-    io::read_full(STDIN_FILENO, &mut s);
+    rt.stdin().chain(io::repeat(0)).read_exact(&mut s)?;
     bits::set_bit(&mut s, 2000, true);
     bits::set_bit(&mut s, 1000, false);
-    lines(&s);
+    lines(&rt, &s)
 }
 
 // Every length to 32, and then by longer steps.
-fn lines(s: &[u8]) {
+fn lines(rt: &impl Print, s: &[u8]) -> io::Result<()> {
     let mut n = 0;
     while n <= 4200 {
-        counts(s, n, n % 3);
-        runs(s, n, n % 3, n % 30);
-        brackets(s, n, n / 2);
-        scan(s, n, n / 2, n / 8);
-        scan(s, n / 2 + n % 24, n / 2, n / 2);
-        cleared(n);
+        counts(rt, s, n, n % 3)?;
+        runs(rt, s, n, n % 3, n % 30)?;
+        brackets(rt, s, n, n / 2)?;
+        scan(rt, s, n, n / 2, n / 8)?;
+        scan(rt, s, n / 2 + n % 24, n / 2, n / 2)?;
+        cleared(rt, n)?;
         n += 1 + n / 32;
     }
+    Ok(())
 }
 
-fn counts(s: &[u8], n: usize, v: usize) {
-    show(bits::rank(s, v, n));
-    show(bits::select(s, v, n, n / 4));
-    show(bits::unused_zero(s, n) as usize);
+fn counts(rt: &impl Print, s: &[u8], n: usize, v: usize) -> io::Result<()> {
+    show(rt, bits::rank(s, v, n))?;
+    show(rt, bits::select(s, v, n, n / 4))?;
+    show(rt, bits::unused_zero(s, n) as usize)
 }
 
-fn runs(s: &[u8], n: usize, v: usize, w: usize) {
-    show(bits::field(s, n, w));
-    show(bits::count_in(s, v, n, w));
-    show(bits::byte(s, n / 8));
-    show(bits::bytes_for(n));
-    show(lending::least(n, 1000));
+fn runs(rt: &impl Print, s: &[u8], n: usize, v: usize, w: usize) -> io::Result<()> {
+    show(rt, bits::field(s, n, w))?;
+    show(rt, bits::count_in(s, v, n, w))?;
+    show(rt, bits::byte(s, n / 8))?;
+    show(rt, bits::bytes_for(n))?;
+    show(rt, lending::least(n, 1000))
 }
 
-fn brackets(s: &[u8], n: usize, i: usize) {
-    show(bits::bit(s, i));
-    show(matching::partner(s, n, i));
-    show(matching::enclosing(s, i));
-    show(matching::is_balanced(s, n) as usize);
+fn brackets(rt: &impl Print, s: &[u8], n: usize, i: usize) -> io::Result<()> {
+    show(rt, bits::bit(s, i))?;
+    show(rt, matching::partner(s, n, i))?;
+    show(rt, matching::enclosing(s, i))?;
+    show(rt, matching::is_balanced(s, n) as usize)
 }
 
-fn scan(s: &[u8], n: usize, p: usize, d: usize) {
+fn scan(rt: &impl Print, s: &[u8], n: usize, p: usize, d: usize) -> io::Result<()> {
     let rest = matching::ahead(s, n, p, d);
-    show(rest.left);
-    show(rest.depth);
+    show(rt, rest.left)?;
+    show(rt, rest.depth)
 }
 
-fn cleared(k: usize) {
+fn cleared(rt: &impl Print, k: usize) -> io::Result<()> {
     let mut list = [7u16; 16];
     lending::clear(&mut list, k);
-    show((list[8] == 0) as usize);
-    io::write_all(STDOUT_FILENO, b"\n");
+    show(rt, (list[8] == 0) as usize)?;
+    println!(rt;)
 }
 
-fn show(x: usize) {
-    io::print_decimal(STDOUT_FILENO, x as u64);
-    io::write_all(STDOUT_FILENO, b" ");
+fn show(rt: &impl Print, x: usize) -> io::Result<()> {
+    print!(rt; "{x} ")
 }

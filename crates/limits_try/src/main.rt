@@ -4,7 +4,7 @@
 
 use answers::{Opened, Packed};
 use format::{AT_AREAS, AT_M, AT_N, LONGEST};
-use libc::STDOUT_FILENO;
+use std::io;
 
 // The drawings tried: one point with loops, one point with dangling borders, and loops with a single dangling border.
 const LOOPS: usize = 0;
@@ -15,54 +15,50 @@ const MIXED: usize = 2;
 
 const SHORT: usize = LONGEST - 1;
 
-fn main() {
-    most_borders(LOOPS);
-    most_borders(STAR);
-    most_borders(MIXED);
-    one_too_many();
+fn main(rt: HostRuntime) -> io::Result<()> {
+    most_borders(&rt, LOOPS)?;
+    most_borders(&rt, STAR)?;
+    most_borders(&rt, MIXED)?;
+    one_too_many(&rt)
 }
 
 // 2,048 borders: n is 1, m+1 and 2; the last gives the longest map.
-fn most_borders(kind: usize) {
+fn most_borders(rt: &impl Print, kind: usize) -> io::Result<()> {
     let mut turning = [0u16; 4096];
     let mut marks = [0u8; 2048];
     fill_turning(&mut turning, kind);
     fill_marks(&mut marks, kind);
     let mut out = [0u8; LONGEST];
-    show_packed(&turning, &marks, &mut out);
-    show_part(&out, SHORT);
-    show_opened(&out);
+    show_packed(rt, &turning, &marks, &mut out)?;
+    show_part(rt, &out, SHORT)?;
+    show_opened(rt, &out)?;
     out[AT_AREAS] = 7; // no drawing of these has so many areas
-    show_part(&out, SHORT);
+    show_part(rt, &out, SHORT)?;
     out[AT_N] = 2;
     out[AT_N + 1] = 8; // n = 2,050 = m + 2
-    show_part(&out, SHORT);
+    show_part(rt, &out, SHORT)?;
     out[AT_M] = 1; // m = 2,049
-    show_part(&out, SHORT);
+    show_part(rt, &out, SHORT)
 }
 
 // A turning list of 4,098 entries and 2,049 marks.
-fn one_too_many() {
+fn one_too_many(rt: &impl Print) -> io::Result<()> {
     let turning = [0u16; 4098];
     let marks = [0u8; 2049];
     let mut out = [0u8; LONGEST];
-    show_packed(&turning, &marks, &mut out);
+    show_packed(rt, &turning, &marks, &mut out)
 }
 
 // The turning list. Border e has its even end at the one point, and its odd end there too or at a point of its own.
 fn fill_turning(turning: &mut [u16], kind: usize) {
-    let mut h = 0;
-    while h < turning.len() {
+    for h in 0..turning.len() {
         turning[h] = entry(kind, h);
-        h += 1;
     }
 }
 
 fn fill_marks(marks: &mut [u8], kind: usize) {
-    let mut e = 0;
-    while e < marks.len() {
+    for e in 0..marks.len() {
         marks[e] = if dangles(kind, e) { 1 } else { 0 };
-        e += 1;
     }
 }
 
@@ -84,38 +80,33 @@ fn dangles(kind: usize, e: usize) -> bool {
     kind == STAR
 }
 
-fn show_packed(turning: &[u16], marks: &[u8], out: &mut [u8]) {
+fn show_packed(rt: &impl Print, turning: &[u16], marks: &[u8], out: &mut [u8]) -> io::Result<()> {
     let mut work = [0u16; 12288];
-    io::write_all(STDOUT_FILENO, b"pack ");
+    print!(rt; "pack ")?;
     match packing::pack(turning, marks, 0, &mut work, out) {
-        Packed::Length(k) => show(0, k, 0),
-        Packed::Crossing(a, b) => show(7, a, b),
-        Packed::Declined(k) => show(k, 0, 0),
+        Packed::Length(k) => show(rt, 0, k, 0),
+        Packed::Crossing(a, b) => show(rt, 7, a, b),
+        Packed::Declined(k) => show(rt, k, 0, 0),
     }
 }
 
-fn show_opened(map: &[u8]) {
-    io::write_all(STDOUT_FILENO, b"open ");
+fn show_opened(rt: &impl Print, map: &[u8]) -> io::Result<()> {
+    print!(rt; "open ")?;
     match opening::open(map) {
-        Opened::Size(m, n) => show(0, m, n),
-        Opened::Declined(k) => show(k, 0, 0),
+        Opened::Size(m, n) => show(rt, 0, m, n),
+        Opened::Declined(k) => show(rt, k, 0, 0),
     }
 }
 
 // Opens the first k bytes, or all where there are fewer.
-fn show_part(map: &[u8], k: usize) {
+fn show_part(rt: &impl Print, map: &[u8], k: usize) -> io::Result<()> {
     if k < map.len() {
-        show_opened(&map[0..k]);
+        show_opened(rt, &map[0..k])
     } else {
-        show_opened(map);
+        show_opened(rt, map)
     }
 }
 
-fn show(number: u8, a: usize, b: usize) {
-    io::print_decimal(STDOUT_FILENO, number as u64);
-    io::write_all(STDOUT_FILENO, b" ");
-    io::print_decimal(STDOUT_FILENO, a as u64);
-    io::write_all(STDOUT_FILENO, b" ");
-    io::print_decimal(STDOUT_FILENO, b as u64);
-    io::write_all(STDOUT_FILENO, b"\n");
+fn show(rt: &impl Print, number: u8, a: usize, b: usize) -> io::Result<()> {
+    println!(rt; "{number} {a} {b}")
 }

@@ -1,12 +1,12 @@
 // Standard input and output of a program.
 //
-//     read_input   fills lent memory from standard input, and tells whether the input was read to its end
-//     print        writes a text to standard output; where that can't be done, says so on standard error
+//     read_input   fills lent memory from a reader, and tells whether the input was read to its end
+//     print        writes a text to one writer; where that can't be done, says so to another
 //
 // Conventions. The bytes read stand at the start of the memory lent. An input that fills the memory counts as read to
 // its end, and nothing more of it is read: the program that calls lends one byte more than its longest input has, or
-// knows what it prints for the bytes that fit. No function asks anything of its caller. What is read and what is
-// written is in no contract.
+// knows what it prints for the bytes that fit. No function asks anything of its caller. A program lends the streams of its
+// runtime, of whose bytes nothing is known; of a reader whose bytes are known, the contract of `read_input` says which were read.
 //
 // The sources are document 01, "Listing": the program "reads a drawing from standard input"; and document 02, 1/14:
 // "A program reads a map's bytes from standard input and prints it". The crate `text`, specs/Heard, says what a program prints where

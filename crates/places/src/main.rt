@@ -12,18 +12,19 @@ use printout::ROOM;
 // One byte more than a text of a drawing can have by the bound `text_short` of the crate `text`: what fills it is refused.
 const LIMIT: usize = 43034;
 
-fn main() {
+fn main(rt: HostRuntime) {
     let mut text = input();
-    let read = piping::read_input(&mut text);
+    let read = piping::read_input(&mut rt.stdin(), &mut text);
     let got = read.got;
     let next = read.next;
     let mut out = output();
     let n = respond(&text[..got], next, &mut out);
-    piping::print(&out[..n], b"places");
+    piping::print(&mut rt.stdout(), &mut rt.stderr(), &out[..n], b"places");
 }
 
 // What is printed for a text, where the read after it answered `next`. Its length.
 // 01, row 17: "text not as below (tested before 1)". Bytes that are not the whole input are not a whole text.
+#[tactic(auto, using(piping::proofs::Ending::heard_end, piping::proofs::Ending::heard_cut))]
 fn respond(text: &[u8], next: isize, out: &mut [u8; ROOM]) -> usize
     ensures value { result ≡ length (heard next (places_of text.now) (refused_line 17)) }
     ensures out_after { out.new ≡ laid (heard next (places_of text.now) (refused_line 17)) out.old }

@@ -4,70 +4,67 @@
 
 use answers::{Area, Count, Opened, Packed, Parsed, Place, PlaceAnswer, Point, Unpacked};
 use format::LONGEST;
-use libc::STDOUT_FILENO;
+use std::io;
 
 const SHORT: usize = LONGEST - 1;
 
-fn main() {
-    pack_rows();
-    marks_rows();
-    open_rows();
-    call_rows();
-    accepted();
+fn main(rt: HostRuntime) -> io::Result<()> {
+    pack_rows(&rt)?;
+    marks_rows(&rt)?;
+    open_rows(&rt)?;
+    call_rows(&rt)?;
+    accepted(&rt)
 }
 
 // 1 to 7: packing.
-fn pack_rows() {
-    row(1, pack(&[0, 1, 2], &[1]));
-    row(2, pack_short(&[1, 0], &[0]));
-    row(3, pack(&[0, 2], &[1]));
-    row(4, pack(&[0, 0], &[1]));
-    row(5, pack(&[0, 1], &[0]));
-    row(6, pack(&[1, 0], &[1]));
-    row(7, pack(&[2, 3, 1, 0], &[0, 0]));
+fn pack_rows(rt: &impl Print) -> io::Result<()> {
+    row(rt, 1, pack(&[0, 1, 2], &[1]))?;
+    row(rt, 2, pack_short(&[1, 0], &[0]))?;
+    row(rt, 3, pack(&[0, 2], &[1]))?;
+    row(rt, 4, pack(&[0, 0], &[1]))?;
+    row(rt, 5, pack(&[0, 1], &[0]))?;
+    row(rt, 6, pack(&[1, 0], &[1]))?;
+    row(rt, 7, pack(&[2, 3, 1, 0], &[0, 0]))
 }
 
 // 21: finding marks, for two borders whose marks are 255 before. 4 comes before it; a border that is not marked joins its points.
-fn marks_rows() {
-    row(21, suggest(&[1, 0, 3, 2]));
-    row(4, suggest(&[1, 1, 3, 2]));
-    row(0, suggest(&[2, 3, 0, 1]));
+fn marks_rows(rt: &impl Print) -> io::Result<()> {
+    row(rt, 21, suggest(&[1, 0, 3, 2]))?;
+    row(rt, 4, suggest(&[1, 1, 3, 2]))?;
+    row(rt, 0, suggest(&[2, 3, 0, 1]))
 }
 
 // 8, 20 and 9 to 12: opening. The count of areas is looked at before the length.
-fn open_rows() {
-    row(8, open(b"\x00\x00\x00\x00"));
-    row(8, open(b"\x00\x00\x00\x00\x02\x00"));
-    row(20, open(b"\x01\x00\x02\x00\x00\x00\x03\x02"));
-    row(20, open(b"\x01\x00\x02\x00\x00\x00\x03"));
-    row(9, open(b"\x00\x00\x01\x00\x01\x00\x05"));
-    row(10, open(b"\x01\x00\x02\x00\x01\x00\x07\x02"));
-    row(11, open(b"\x01\x00\x02\x00\x01\x00\x01\x02"));
-    row(12, open(b"\x01\x00\x02\x00\x01\x00\x03\x01"));
+fn open_rows(rt: &impl Print) -> io::Result<()> {
+    row(rt, 8, open(b"\x00\x00\x00\x00"))?;
+    row(rt, 8, open(b"\x00\x00\x00\x00\x02\x00"))?;
+    row(rt, 20, open(b"\x01\x00\x02\x00\x00\x00\x03\x02"))?;
+    row(rt, 20, open(b"\x01\x00\x02\x00\x00\x00\x03"))?;
+    row(rt, 9, open(b"\x00\x00\x01\x00\x01\x00\x05"))?;
+    row(rt, 10, open(b"\x01\x00\x02\x00\x01\x00\x07\x02"))?;
+    row(rt, 11, open(b"\x01\x00\x02\x00\x01\x00\x01\x02"))?;
+    row(rt, 12, open(b"\x01\x00\x02\x00\x01\x00\x03\x01"))
 }
 
 // 13 to 17: a place, a point, an area that is not there, a list that is too short, and a text whose first line is empty.
-fn call_rows() {
+fn call_rows(rt: &impl Print) -> io::Result<()> {
     let stub = b"\x01\x00\x02\x00\x01\x00\x03\x02";
-    row(13, of_place(map::cross(stub, Place(0))));
-    row(14, of_count(map::degree(stub, Point(0))));
-    row(15, of_count(map::sides(stub, Area(0))));
-    row(16, unpack_short(stub));
-    row(17, parse(b"\nborder first second mark\n"));
+    row(rt, 13, of_place(map::cross(stub, Place(0))))?;
+    row(rt, 14, of_count(map::degree(stub, Point(0))))?;
+    row(rt, 15, of_count(map::sides(stub, Area(0))))?;
+    row(rt, 16, unpack_short(stub))?;
+    row(rt, 17, parse(b"\nborder first second mark\n"))
 }
 
 // (a) the empty map, (b) a single border, (c) a loop.
-fn accepted() {
-    row(0, pack(&[], &[]));
-    row(0, pack(&[0, 1], &[1]));
-    row(0, pack(&[1, 0], &[0]));
+fn accepted(rt: &impl Print) -> io::Result<()> {
+    row(rt, 0, pack(&[], &[]))?;
+    row(rt, 0, pack(&[0, 1], &[1]))?;
+    row(rt, 0, pack(&[1, 0], &[0]))
 }
 
-fn row(number: u8, came: u8) {
-    io::print_decimal(STDOUT_FILENO, number as u64);
-    io::write_all(STDOUT_FILENO, b" ");
-    io::print_decimal(STDOUT_FILENO, came as u64);
-    io::write_all(STDOUT_FILENO, b"\n");
+fn row(rt: &impl Print, number: u8, came: u8) -> io::Result<()> {
+    println!(rt; "{number} {came}")
 }
 
 // The number of packing's refusal, or 0 where it accepts.

@@ -14,18 +14,19 @@ use scheduling::ROOM;
 // One byte more than the longest map: a longer input gets the same line as its first bytes (`schedule_cut` of the crate `text`).
 const LIMIT: usize = LONGEST + 1;
 
-fn main() {
+fn main(rt: HostRuntime) {
     let mut map = input();
-    let read = piping::read_input(&mut map);
+    let read = piping::read_input(&mut rt.stdin(), &mut map);
     let got = read.got;
     let next = read.next;
     let mut out = output();
     let n = respond(&map[..got], next, &mut out);
-    piping::print(&out[..n], b"schedule");
+    piping::print(&mut rt.stdout(), &mut rt.stderr(), &out[..n], b"schedule");
 }
 
 // What is printed for the bytes of a map, where the read after them answered `next`. Its length.
 // Bytes that are not the whole input are no map: they get the refusal that no bytes at all get.
+#[tactic(auto, using(piping::proofs::Ending::heard_end, piping::proofs::Ending::heard_cut))]
 fn respond(map: &[u8], next: isize, out: &mut [u8; ROOM]) -> usize
     ensures value { result ≡ length (heard next (schedule_of map.now) (refused_line 8)) }
     ensures out_after { out.new ≡ laid (heard next (schedule_of map.now) (refused_line 8)) out.old }

@@ -1,2 +1,0 @@
--- The limits tried: the laws.
-mod Filling
