@@ -1,6 +1,6 @@
 /*
  * pmap.h - packed maps of rating areas: finding marks for a drawing, packing it and unpacking a map; opening, moves, counts,
- * factors, the joining border and whole sessions on the bytes of a map. Link with libpmap.a (`rt staticlib pmap`).
+ * factors, the joining border and whole sessions on the bytes of a map. Link with libpmap.a (`rt lib` in crates/pmap).
  *
  * Proved. For all bytes and all numbers, and as long as the caller keeps to "Memory" and "Doubles" below, every function
  * ends, touches no other memory, and answers and leaves in the memory it was lent what stands here. Not proved: "Time",
@@ -44,7 +44,7 @@
  *
  * Stack. No function recurses or allocates. pmap_session, pmap_neighbours, pmap_factor, pmap_joining and pmap_unpack hold
  * lists of the whole map on the stack: the deepest of them was measured at 43,384 bytes below the caller's frame, every other
- * call at up to 544 (libpmap.a of this toolchain, x86-64). A host that leaves PMAP_STACK bytes has half as much again as any
+ * call at up to 544 (libpmap.a as of the older kit, x86-64). A host that leaves PMAP_STACK bytes has half as much again as any
  * call takes. tests/host measures it again at each run.
  *
  * Threads. Nothing is kept between calls, there is no global state, and no function calls back: calls may run in several

@@ -1,8 +1,7 @@
 // The listing of a map as text, or the line of a refusal.
 //
-//     list                the listing of a map, or the line of the check that declines its bytes
-//     pmap_listing_text   the same for a C host
-//     refused             the line `refused`, a space and a number
+//     list      the listing of a map, or the line of the check that declines its bytes
+//     refused   the line `refused`, a space and a number
 //
 // Conventions. The text stands at the start of the memory lent, and its length is answered; the bytes
 // after it stay as they were. The memory has the room of the longest listing: a heading of 26 bytes
@@ -14,11 +13,11 @@
 //
 // The source is document 01, "Listing", and document 02, 5/14. The definitions that the contracts cite
 // are those of the crate `text`, whose specs/Running has the running count, and what is shown of it for every map
-// listed (`running_rank`).
+// listed (`running_rank`). The crate `listing_c` gives a C host what `list` writes.
 #![tactic(auto)]
 
 mod line;
 mod lines;
 mod print;
 
-pub use print::{ROOM, list, pmap_listing_text, refused};
+pub use print::{ROOM, list, refused};

@@ -32,15 +32,6 @@ pub fn refused(k: u8, out: &mut [u8; ROOM]) -> usize
     printing::refused(k, out)
 }
 
-// The listing, or the line, for a C host, as `rt staticlib listing` gives it.
-#[unsafe(no_mangle)]
-pub extern "C" fn pmap_listing_text(map: &[u8], out: &mut [u8; ROOM]) -> usize
-    ensures value { result ≡ length (printed map.now) }
-    ensures out_after { out.new ≡ laid (printed map.now) out.old }
-{
-    list(map, out)
-}
-
 // The heading, then the lines of all places.
 fn put_listing(map: &[u8], out: &mut [u8]) -> usize
     requires { (open_refusal map.now ≡ 0) × (90138 ≤ length out.old) }

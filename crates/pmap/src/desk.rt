@@ -35,6 +35,7 @@ pub extern "C" fn pmap_pack(
 }
 
 // The drawing of a map goes to the two lists, m to a slot.
+#[tactic(auto, using(crate::proofs::Drawings::unpack_small, crate::proofs::Drawings::unpack_status))]
 #[unsafe(no_mangle)]
 pub extern "C" fn pmap_unpack(map: &[u8], turning: &mut [u16], marks: &mut [u8], m: &mut u16) -> u8
     ensures value { result ≡ number_of (unpack_of map.now (size turning.old) (size marks.old)) }

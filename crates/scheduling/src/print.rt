@@ -33,15 +33,6 @@ pub fn refused(k: u8, out: &mut [u8; ROOM]) -> usize
     printing::refused(k, out)
 }
 
-// The schedule, or the line, for a C host, as `rt staticlib scheduling` gives it.
-#[unsafe(no_mangle)]
-pub extern "C" fn pmap_schedule_text(map: &[u8], out: &mut [u8; ROOM]) -> usize
-    ensures value { result ≡ length (schedule_of map.now) }
-    ensures out_after { out.new ≡ laid (schedule_of map.now) out.old }
-{
-    schedule(map, out)
-}
-
 // The schedule of a map that opens.
 fn put_schedule(map: &[u8], out: &mut [u8; ROOM]) -> usize
     requires { open_refusal map.now ≡ 0 }
