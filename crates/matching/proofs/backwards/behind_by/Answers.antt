@@ -13,8 +13,7 @@ pub overflow_sub-depth : goal.overflow_sub-depth
 overflow_sub-depth c = c.if-depth-e.false
 
 pub loop-at-preserved : goal.loop-at-preserved
-loop-at-preserved c =
-    (
+loop-at-preserved c = (
   search rules,
   coming_byte c.loop-at.at c.loop-at.invariant.1 c.loop-at-test.true c.entry-e.ensures c.if-depth-e.false refl,
 )

@@ -14,8 +14,7 @@ pub returns-then-w-ne0 : goal.returns-then-w-ne0
 returns-then-w-ne0 c = enclosing_first _ _ _ _ (search rules) c.behind_bits-w.ensures c.if-w-ne0.true
 
 pub behind_bytes-requires : goal.behind_bytes-requires
-behind_bytes-requires c =
-    (
+behind_bytes-requires c = (
   search rules,
   omega (arith, enclosing_room _ _ _ _ (search rules) c.behind_bits-w.ensures),
 )

@@ -34,13 +34,12 @@ returns-then-n-count_marks c =
     }
 
 pub finish-requires : goal.finish-requires
-finish-requires c =
-    (
-      checked_six _ _ _ c.requires.0 c.requires.1 _ c.is_distinct.ensures.decides (ap not c.if-not-is_distinct.false) _ c.joined_points-n.ensures.by_index c.if-n-eq0.false _ c.count_marks.ensures.by_index (omega (arith, c.if-n-count_marks.false)),
-      checked_points _ _ _ c.requires.0 c.requires.1 _ c.is_distinct.ensures.decides (ap not c.if-not-is_distinct.false) _ c.joined_points-n.ensures.by_index c.if-n-eq0.false _ c.count_marks.ensures.by_index,
-      blank_still _ _ _ c.requires.2 (c.joined_points-n.ensures.work_unchanged ∙ c.is_distinct.ensures.work_unchanged),
-      c.requires.3,
-    )
+finish-requires c = (
+  checked_six _ _ _ c.requires.0 c.requires.1 _ c.is_distinct.ensures.decides (ap not c.if-not-is_distinct.false) _ c.joined_points-n.ensures.by_index c.if-n-eq0.false _ c.count_marks.ensures.by_index (omega (arith, c.if-n-count_marks.false)),
+  checked_points _ _ _ c.requires.0 c.requires.1 _ c.is_distinct.ensures.decides (ap not c.if-not-is_distinct.false) _ c.joined_points-n.ensures.by_index c.if-n-eq0.false _ c.count_marks.ensures.by_index,
+  blank_still _ _ _ c.requires.2 (c.joined_points-n.ensures.work_unchanged ∙ c.is_distinct.ensures.work_unchanged),
+  c.requires.3,
+)
 
 pub returns : goal.returns
 returns c =

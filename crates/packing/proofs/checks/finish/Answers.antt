@@ -23,7 +23,7 @@ returns-in-Pair c =
 
 pub returns-in-Nothing : goal.returns-in-Nothing
 returns-in-Nothing c =
-    let C = chart_made _ _ _ c.requires.0 _ c.requires.2 _ c.tour.ensures.tours c.tour.ensures.outside _ c.seconds.ensures in let D = chart_kept _ _ _ c.requires.0 _ C _ c.find_crossing.ensures.zeroed in 
+    let C = chart_made _ _ _ c.requires.0 _ c.requires.2 _ c.tour.ensures.tours c.tour.ensures.outside _ c.seconds.ensures in let D = chart_kept _ _ _ c.requires.0 _ C _ c.find_crossing.ensures.zeroed in
     record {
       packs_later = finish_none _ _ _ c.requires.0 _ C _ c.find_crossing.ensures.result_value c.in-Nothing.is _ c.requires.1 _ D _ _ _ c.write_map.ensures.value c.write_map.ensures.out_after;
       kept = chart_kept_all _ _ _ c.requires.0 _ c.requires.2 _ c.tour.ensures.tours c.tour.ensures.outside _ c.seconds.ensures _ c.find_crossing.ensures.zeroed;

@@ -25,13 +25,12 @@ returns-then-not-in_range c =
     (ap not c.if-not-in_range.true)
 
 pub checked-packed-requires : goal.checked-packed-requires
-checked-packed-requires c =
-    (
-      lengths_passed _ _ _ c.lengths_fit.ensures (ap not c.if-not-lengths_fit.false) _,
-      pack_range _ _ _ _ c.in_range.ensures (ap not c.if-not-in_range.false),
-      work_blank _ _ _ c.lengths_fit.ensures (ap not c.if-not-lengths_fit.false) _ _ c.if-work-k.false c.clear.ensures,
-      c.if-out-lt-LONGEST.false,
-    )
+checked-packed-requires c = (
+  lengths_passed _ _ _ c.lengths_fit.ensures (ap not c.if-not-lengths_fit.false) _,
+  pack_range _ _ _ _ c.in_range.ensures (ap not c.if-not-in_range.false),
+  work_blank _ _ _ c.lengths_fit.ensures (ap not c.if-not-lengths_fit.false) _ _ c.if-work-k.false c.clear.ensures,
+  c.if-out-lt-LONGEST.false,
+)
 
 pub returns : goal.returns
 returns c = pack_done _ _ _ _ _ _ c.lengths_fit.ensures (ap not c.if-not-lengths_fit.false) c.if-work-k.false c.if-out-lt-LONGEST.false _ c.in_range.ensures (ap not c.if-not-in_range.false) _ _ _ c.clear.ensures c.checked-packed.ensures.kept c.clear-2.ensures _ _ c.checked-packed.ensures.packs_later

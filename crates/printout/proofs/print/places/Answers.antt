@@ -42,12 +42,12 @@ returns-in-Borders c =
     let N : Denoted c.args.text.now c.in-Borders.m c.parse.new.turning c.parse.new.marks
     = read_denoted _ _ _ _ _ _ (sym (ap parsed_means c.in-Borders.is) ∙ c.parse.ensures.result_value) c.parse.ensures.turning_after c.parse.ensures.marks_after in
     let t =
-        stands_as _ _ _ _ _ (denoted_printed _ _ _ _ N) (c.places_of.ensures.value, c.places_of.ensures.out_after) in
+    stands_as _ _ _ _ _ (denoted_printed _ _ _ _ N) (c.places_of.ensures.value, c.places_of.ensures.out_after) in
     record { value = t.0; out_after = t.1 }
 
 pub returns-in-Declined : goal.returns-in-Declined
 returns-in-Declined c =
     let t =
-        stands_as _ _ _ _ _ (declined_printed _ c.in-Declined.k (sym (ap parsed_means c.in-Declined.is) ∙ c.parse.ensures.result_value))
-        (c.refused.ensures.value, c.refused.ensures.out_after) in
+    stands_as _ _ _ _ _ (declined_printed _ c.in-Declined.k (sym (ap parsed_means c.in-Declined.is) ∙ c.parse.ensures.result_value))
+    (c.refused.ensures.value, c.refused.ensures.out_after) in
     record { value = t.0; out_after = t.1 }

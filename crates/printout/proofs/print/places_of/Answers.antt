@@ -24,19 +24,19 @@ returns-in-Length c =
     let M : Mapped (lent c.args.turning.now c.args.marks.now 0) c.in-Length.n c.pack.new.out
     = map_mapped _ _ _ (omega arith) (omega arith) c.pack.result c.pack.ensures.answers _ _ _ c.in-Length.is c.pack.ensures.leaves.output in
     let t =
-        stands_as _ _ _ _ _ (sym M.prints) (c.list.ensures.value, c.list.ensures.out_after) in
+    stands_as _ _ _ _ _ (sym M.prints) (c.list.ensures.value, c.list.ensures.out_after) in
     record { value = t.0; out_after = t.1 }
 
 pub returns-in-Crossing : goal.returns-in-Crossing
 returns-in-Crossing c =
     let t =
-        stands_as _ _ _ _ _ (crossing_prints (lent c.args.turning.now c.args.marks.now 0) _ _ (omega arith) (omega arith) c.pack.result c.pack.ensures.answers _ _ c.in-Crossing.is)
-        (c.refused.ensures.value, c.refused.ensures.out_after) in
+    stands_as _ _ _ _ _ (crossing_prints (lent c.args.turning.now c.args.marks.now 0) _ _ (omega arith) (omega arith) c.pack.result c.pack.ensures.answers _ _ c.in-Crossing.is)
+    (c.refused.ensures.value, c.refused.ensures.out_after) in
     record { value = t.0; out_after = t.1 }
 
 pub returns-in-Declined : goal.returns-in-Declined
 returns-in-Declined c =
     let t =
-        stands_as _ _ _ _ _ (declined_prints (lent c.args.turning.now c.args.marks.now 0) _ _ (omega arith) (omega arith) c.pack.result c.pack.ensures.answers _ c.in-Declined.is)
-        (c.refused-in-Declined.ensures.value, c.refused-in-Declined.ensures.out_after) in
+    stands_as _ _ _ _ _ (declined_prints (lent c.args.turning.now c.args.marks.now 0) _ _ (omega arith) (omega arith) c.pack.result c.pack.ensures.answers _ c.in-Declined.is)
+    (c.refused-in-Declined.ensures.value, c.refused-in-Declined.ensures.out_after) in
     record { value = t.0; out_after = t.1 }

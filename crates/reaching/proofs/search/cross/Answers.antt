@@ -20,13 +20,12 @@ bounds-work-turning c = cross_entry _ _ _ _ _ _ _ c.requires.4 c.requires.0 c.re
 
 pub gather-requires : goal.gather-requires
 unfolding border
-gather-requires c =
-    (
-      c.requires.0,
-      search (c.requires.2, cross_beyond _ _ _ _ _ _ _ c.requires.4 c.requires.0 c.requires.1 c.requires.2 _ c.other-beyond.ensures),
-      noted_queue _ _ _ _ _ _ _ c.requires.4 c.requires.0 c.requires.1 c.requires.2,
-      noted_whole _ _ _ _ _ _ _ c.requires.4 c.requires.0 c.requires.1 c.requires.2,
-    )
+gather-requires c = (
+  c.requires.0,
+  search (c.requires.2, cross_beyond _ _ _ _ _ _ _ c.requires.4 c.requires.0 c.requires.1 c.requires.2 _ c.other-beyond.ensures),
+  noted_queue _ _ _ _ _ _ _ c.requires.4 c.requires.0 c.requires.1 c.requires.2,
+  noted_whole _ _ _ _ _ _ _ c.requires.4 c.requires.0 c.requires.1 c.requires.2,
+)
 
 pub overflow_add-result : goal.overflow_add-result
 overflow_add-result c = cross_points _ _ _ _ _ _ _ c.requires.4 c.requires.0 c.requires.1 c.requires.2 (search rules)

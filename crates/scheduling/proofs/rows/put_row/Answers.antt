@@ -15,8 +15,7 @@ put_column-c-requires c = (five_digits c.args.first.0 c.requires.2 7 (omega arit
 pub returns : goal.returns
 returns c =
     let t =
-        row_wrote c.args.out.now _ _ _ _ c.args.at c.put_column-a.result c.put_column-b.result c.put_column-c.result c.put_byte.result
+    row_wrote c.args.out.now _ _ _ _ c.args.at c.put_column-a.result c.put_column-b.result c.put_column-c.result c.put_byte.result
     (record { area = c.args.area.0; sides = c.args.sides; first = c.args.first.0 }) c.requires.0 c.requires.1 c.requires.2 c.requires.3
     c.put_column-a.ensures.0 c.put_column-b.ensures.0 c.put_column-c.ensures.0 c.put_byte.ensures in
     record { wrote = t.0; value = t.1 }
-

@@ -17,12 +17,11 @@ pub returns-then-not-entries_fit : goal.returns-then-not-entries_fit
 returns-then-not-entries_fit c = λ s. first_3 _ _ _ _ c.lengths_fit.ensures (ap not c.if-not-lengths_fit.false) c.if-work-k.false _ c.entries_fit.ensures s (ap not c.if-not-entries_fit.true)
 
 pub suggest_tree-requires : goal.suggest_tree-requires
-suggest_tree-requires c =
-    (
-      first_ranged _ _ c.entries_fit.ensures (ap not c.if-not-entries_fit.false),
-      (lengths_passed _ _ _ c.lengths_fit.ensures (ap not c.if-not-lengths_fit.false) 0).half,
-      work_blank _ _ _ c.lengths_fit.ensures (ap not c.if-not-lengths_fit.false) _ _ c.if-work-k.false c.clear.ensures,
-    )
+suggest_tree-requires c = (
+  first_ranged _ _ c.entries_fit.ensures (ap not c.if-not-entries_fit.false),
+  (lengths_passed _ _ _ c.lengths_fit.ensures (ap not c.if-not-lengths_fit.false) 0).half,
+  work_blank _ _ _ c.lengths_fit.ensures (ap not c.if-not-lengths_fit.false) _ _ c.if-work-k.false c.clear.ensures,
+)
 
 pub returns : goal.returns
 returns c =
