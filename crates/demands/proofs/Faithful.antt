@@ -11,7 +11,7 @@ use Rattle.words.specs.Word.{seen}
 use Rattle.words.proofs.Step.{step_below}
 use Rattle.drawing.specs.Drawing.{Drawing, ends, turn, end_at, position_of}
 use Rattle.drawing.specs.Checks.{PassesSeven}
-use Rattle.format.specs.Bytes.{word_in, map_bytes}
+use Rattle.format.specs.Bytes.{word_in}
 use Rattle.format.specs.Pack.{word_of, size_for, packed_bytes}
 use Rattle.format.proofs.Encode.{decode_encode}
 use Rattle.agreement.specs.Toured.{Toured}

@@ -2,13 +2,12 @@
 --
 -- turan_packed     == turan_bytes is what packing writes
 -- Assumes nothing.
-use mathlib.Core.Path.{◌≡◌, refl, sym, ap, ap₂, ◌∙◌}
+use mathlib.Core.Path.{◌≡◌, refl}
 use mathlib.Core.Bool.{Bool, true, false, not}
 use mathlib.Core.List.{List, ◌++◌}
 use Prim.Native.Nat.{ℕ}
 use Rattle.count.specs.Below.{pick}
 use Rattle.count.proofs.Lists.{table_same, gather_same}
-use Rattle.words.specs.declared.family.Family.{Family}
 use Rattle.words.specs.declared.family.Family.TheVariants.{Round as round, Square as square}
 use Rattle.words.specs.Word.{same_family}
 use Rattle.bits.specs.Letters.{family_bit, closing_bit}

@@ -18,10 +18,10 @@ use mathlib.Core.Logic.{◌≢◌, ◌⊎◌, inl, inr}
 use mathlib.Core.Bool.{Bool, true, false}
 use Prim.Native.Nat.{ℕ, zero, suc, pred, ◌+◌, ◌*◌, ◌/◌, ◌%◌, ◌<◌}
 use native.Mathlib.Omega.{arith}
-use native.Mathlib.Numerals.{add-one, sub-one}
+use native.Mathlib.Numerals.{add-one}
 use lib.Dec.{eqb}
 use borrow.Author.Tests.{eq-eqb, ne_eqb}
-use Rattle.count.specs.Below.{pick, count}
+use Rattle.count.specs.Below.{count}
 use Rattle.count.proofs.Logic.{same_or_not, pick_yes, pick_no, true_or_false}
 use Rattle.orbits.specs.Cycles.{Permutes}
 use Rattle.orbits.proofs.Iter.{iter_zero, iter_next, permutes_differ, permutes_involution, permutes_compose}

@@ -6,7 +6,7 @@
 -- old_end D g     == the end whose new number is g
 -- renumbered D   == the drawing in the new numbers
 -- Assumes nothing.
-use Rattle.std.specs.Prelude.{not, ℕ, suc, ◌+◌, ◌*◌, min, get_or, eqb}
+use Rattle.std.specs.Prelude.{not, ℕ, ◌+◌, ◌*◌, min, get_or, eqb}
 use Rattle.count.specs.Below.{pick, count, find, table}
 use Rattle.drawing.specs.Drawing.{Drawing, borders, ends, border, turn, position_of, is_second}
 

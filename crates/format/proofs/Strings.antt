@@ -6,14 +6,13 @@
 -- string_b_length, string_b_nth, string_b_at, string_b_bits == B and B* have a bit for each position of their family, whether it closes
 -- string_a_same, string_b_same == words with the same letters have the same strings
 -- Assumes nothing.
-use mathlib.Core.Path.{◌≡◌, refl, sym, ◌∙◌, ap}
+use mathlib.Core.Path.{◌≡◌, refl, ◌∙◌, ap}
 use mathlib.Core.Bool.{Bool, true, false, not}
 use Prim.Native.Nat.{ℕ, ◌+◌, ◌<◌}
 use native.Mathlib.Omega.{arith}
 use lib.ListN.{length, get_or}
-use lib.Seq.{ext_get_or}
-use Rattle.count.specs.Below.{count, nth, table, gather}
-use Rattle.count.proofs.Below.{count_same, count_not, count_before, nth_below, nth_same, nth_of_count}
+use Rattle.count.specs.Below.{count, nth}
+use Rattle.count.proofs.Below.{count_same, count_not, count_before, nth_of_count}
 use Rattle.count.proofs.Lists.{table_same, gather_same, table_length, table_get_d, gather_length, gather_get_d}
 use Rattle.words.specs.declared.family.Family.{Family}
 use Rattle.words.specs.declared.family.Family.TheVariants.{Round as round, Square as square}

@@ -15,7 +15,7 @@
 -- join_checks s u v    == the checks of a call about two points: opening's, then 14 of each
 -- joining_of s u v     == the joining border of points u and v
 -- Assumes nothing.
-use Rattle.std.specs.Prelude.{Bool, true, false, ◌&&◌, List, [], ◌∷◌, ◌++◌, ℕ, zero, suc, pred, ◌+◌, ◌-◌, ◌≤◌, eqb, ltb, leb}
+use Rattle.std.specs.Prelude.{Bool, true, false, ◌&&◌, List, [], ◌∷◌, ◌++◌, ℕ, zero, suc, pred, ◌≤◌, eqb, ltb, leb}
 use Rattle.count.specs.Below.{pick}
 use Rattle.answers.specs.Checks.{Check, check, after}
 use Rattle.answers.specs.Answer.{Answer, Reply, plain, Size, Kind, no_such}

@@ -6,7 +6,7 @@
 use mathlib.Core.Path.{◌≡◌, refl, sym, ap, ◌∙◌}
 use mathlib.Core.Bool.{Bool, true, false}
 use mathlib.Core.List.{List}
-use Prim.Native.Nat.{ℕ, ◌-◌}
+use Prim.Native.Nat.{ℕ}
 use Rattle.count.specs.Below.{pick}
 use Rattle.answers.specs.Answer.{Answer, answer, refused, Kind}
 use Rattle.answers.specs.Checks.{checked}

@@ -4,7 +4,7 @@
 -- SameUsed kinds values others == the two lists of numbers agree in all that is used
 -- Factored s k kinds values == the whole
 -- Assumes nothing.
-use Rattle.std.specs.Prelude.{◌≡◌, Bool, true, List, [], ℕ, ◌+◌, ◌*◌, ◌<◌, eqb, Float, length, get_or}
+use Rattle.std.specs.Prelude.{◌≡◌, Bool, true, List, ℕ, ◌+◌, ◌*◌, ◌<◌, eqb, Float, length, get_or}
 use Rattle.std.specs.Float.{binary64, nan}
 use Rattle.std.specs.Float.Ieee.{of_bits, le}
 use Rattle.count.specs.Below.{pick}

@@ -8,7 +8,7 @@
 -- places_of s      == what `places` prints for the text s
 -- Assumes nothing.
 use Rattle.std.specs.Prelude.{Bool, true, false, List, [], ◌∷◌, ◌++◌, ℕ, zero, suc, ◌*◌}
-use Rattle.answers.specs.Answer.{Answer, answer, refused_with, refused}
+use Rattle.answers.specs.Answer.{Answer, answer, refused_with}
 use Rattle.answers.specs.Checks.{after}
 use Rattle.words.specs.declared.family.Family.{Family}
 use Rattle.words.specs.declared.family.Family.TheVariants.{Round as round, Square as square}

@@ -22,7 +22,7 @@ use Rattle.count.proofs.Below.{count_not, any_has, any_from}
 use Rattle.answers.specs.Answer.{Kind}
 use Rattle.orbits.specs.Cycles.{Permutes, cycles}
 use Rattle.orbits.proofs.Classes.{cycles_same}
-use Rattle.drawing.specs.Drawing.{Drawing, borders, ends, border, turn, is_marked, over, walk, around, cells, end_at, position_of, is_second}
+use Rattle.drawing.specs.Drawing.{Drawing, borders, ends, border, turn, is_marked, over, walk, around, end_at, position_of, is_second}
 use Rattle.drawing.specs.Checks.{PassesSix, Alternate, mark_count}
 use Rattle.drawing.proofs.Ends.{turn_permutes, over_over, two_places}
 use Rattle.tours.specs.Tour.{MeetsAll, Nests, NotFlat}

@@ -1,5 +1,4 @@
 use native.Mathlib.Omega.{arith}
-use Prim.Native.Nat.{◌-◌}
 use Rattle.bits.proofs.Loops.{counted_start, counted_more, counted_end}
 use Rattle.bits.proofs.read.ones_from.Goals as goal
 

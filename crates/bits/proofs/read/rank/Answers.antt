@@ -1,5 +1,4 @@
 use native.Mathlib.Omega.{arith}
-use Prim.Native.Nat.{◌-◌}
 use Rattle.bits.proofs.Loops.{counted_start, counted_more, ranked}
 use Rattle.bits.proofs.read.rank.Goals as goal
 

@@ -1,5 +1,4 @@
 use native.Mathlib.Omega.{arith}
-use Prim.Native.Nat.{◌-◌}
 use Rattle.bits.proofs.Loops.{selected_start, selected_skip, selected_rest}
 use Rattle.bits.proofs.read.select.Goals as goal
 

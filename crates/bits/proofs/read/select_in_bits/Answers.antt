@@ -1,5 +1,4 @@
 use native.Mathlib.Omega.{arith}
-use Prim.Native.Nat.{◌-◌}
 use Rattle.bits.proofs.Loops.{selected_from, selected_here, selected_none, bit_is, Selected-step}
 use Rattle.bits.proofs.read.select_in_bits.Goals.{then-bit-v+else-left-eq0, else-bit-v}
 use Rattle.bits.proofs.read.select_in_bits.Goals as goal

@@ -1,5 +1,4 @@
 use native.Mathlib.Omega.{arith}
-use Prim.Native.Nat.{◌-◌}
 use Rattle.bits.proofs.Loops.{unused_start, unused_more, unused_not, unused_end}
 use Rattle.bits.proofs.read.unused_zero.Goals as goal
 

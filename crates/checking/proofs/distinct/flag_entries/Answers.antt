@@ -1,4 +1,3 @@
-use Prim.Native.Nat.{◌-◌}
 use Rattle.checking.proofs.Seen.{seen_all, seen_kept, seen_length, seen_more, seen_room, seen_start, seen_twice}
 use Rattle.checking.proofs.distinct.flag_entries.Goals as goal
 

@@ -1,4 +1,3 @@
-use Prim.Native.Nat.{◌-◌}
 use Rattle.checking.proofs.Scans.{count_marks_all, marked_no, marked_start, marked_yes}
 use Rattle.checking.proofs.lists.count_marks.Goals.{else-marks-e-eq1, then-marks-e-eq1}
 use Rattle.checking.proofs.lists.count_marks.Goals as goal

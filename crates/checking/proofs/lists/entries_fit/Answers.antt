@@ -1,4 +1,3 @@
-use Prim.Native.Nat.{◌-◌}
 use Rattle.checking.proofs.Scans.{entries_all}
 use Rattle.checking.proofs.lists.entries_fit.Goals as goal
 

@@ -1,4 +1,3 @@
-use Prim.Native.Nat.{◌-◌}
 use native.Mathlib.Omega.{arith}
 use Rattle.checking.proofs.Scans.{binary_not, marks_all}
 use Rattle.checking.proofs.lists.marks_fit.Goals as goal

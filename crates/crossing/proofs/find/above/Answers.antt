@@ -1,4 +1,3 @@
-use Prim.Native.Nat.{◌-◌}
 use Rattle.crossing.proofs.Climb.{above_all}
 use Rattle.crossing.proofs.find.above.Goals as goal
 

@@ -1,4 +1,3 @@
-use Prim.Native.Nat.{◌-◌}
 use Rattle.crossing.proofs.Stack.{nesting_border, nesting_flag, nesting_found, nesting_height, nesting_here, nesting_last, nesting_last_place, nesting_length, nesting_narrow, nesting_none, nesting_outside, nesting_pop, nesting_push, nesting_scaled, nesting_skip, nesting_some, nesting_stands, nesting_start, nesting_sum, nesting_top, nesting_top_scaled, nesting_top_sum, some_all}
 use Rattle.crossing.proofs.find.follow.Goals.{then-marks-e-ne1+then-work-places-eq0, then-marks-e-ne1+else-work-places-eq0+else-opened-e, else-marks-e-ne1}
 use Rattle.crossing.proofs.find.follow.Goals as goal

@@ -1,4 +1,3 @@
-use Prim.Native.Nat.{◌-◌}
 use native.Mathlib.Omega.{arith}
 use Rattle.landing.proofs.Gathering.{walking_start, area_fits, walking_more, walking_end, landed_own, landed_none}
 use Rattle.landing.proofs.across.few_across.Goals as goal

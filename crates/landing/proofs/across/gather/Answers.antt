@@ -1,4 +1,3 @@
-use Prim.Native.Nat.{◌-◌}
 use Rattle.landing.proofs.Gathering.{passing_start, passing_end, mate_index, passing_side, passing_other}
 use Rattle.landing.proofs.across.gather.Goals.{else-own-k, then-own-k}
 use Rattle.landing.proofs.across.gather.Goals as goal

@@ -1,4 +1,3 @@
-use Prim.Native.Nat.{◌-◌}
 use Rattle.lending.proofs.Clearing.{clear_all}
 use Rattle.lending.proofs.lists.zero.Goals as goal
 

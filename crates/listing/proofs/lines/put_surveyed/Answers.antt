@@ -1,4 +1,3 @@
-use Prim.Native.Nat.{◌-◌}
 use borrow.Author.Rules.{rules}
 use Rattle.text.proofs.Running.{counts_le, kind_read}
 use Rattle.listing.proofs.Listed.{lined_start, lined_position, lined_room, lined_fits, lined_step, lined_end}

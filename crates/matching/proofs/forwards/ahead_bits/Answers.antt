@@ -1,4 +1,3 @@
-use Prim.Native.Nat.{◌-◌}
 use Rattle.matching.proofs.Loops.{going_start, going_opens, going_closes, going_stuck, going_end}
 use Rattle.matching.proofs.forwards.ahead_bits.Goals.{else-bit-eq0+else-depth-eq0, then-bit-eq0}
 use Rattle.matching.proofs.forwards.ahead_bits.Goals as goal

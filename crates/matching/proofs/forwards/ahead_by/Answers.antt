@@ -1,5 +1,4 @@
 use mathlib.Core.Path.{refl}
-use Prim.Native.Nat.{◌-◌}
 use borrow.Author.Rules.{rules}
 use Rattle.matching.proofs.Loops.{going_start, going_byte, going_rest}
 use Rattle.matching.proofs.forwards.ahead_by.Goals as goal

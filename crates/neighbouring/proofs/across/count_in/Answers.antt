@@ -1,4 +1,3 @@
-use Prim.Native.Nat.{◌-◌}
 use borrow.Author.Rules.{rules}
 use Rattle.neighbouring.proofs.Counting.{own_index, area_index, flag_most, others_fit, counting_start, counting_more, counting_end}
 use Rattle.neighbouring.proofs.across.count_in.Goals as goal

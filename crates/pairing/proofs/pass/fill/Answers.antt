@@ -1,4 +1,3 @@
-use Prim.Native.Nat.{◌-◌}
 use native.Mathlib.Omega.{arith}
 use Rattle.pairing.proofs.Filling.{filling_start, mates_end, squares_end, rounds_end, square_room, round_room, read_few, filling_passable, filling_more}
 use Rattle.pairing.proofs.pass.fill.Goals as goal

@@ -1,4 +1,3 @@
-use Prim.Native.Nat.{◌-◌}
 use Rattle.printing.proofs.Columns.{spaces_all}
 use Rattle.printing.proofs.write.put_spaces.Goals as goal
 

@@ -1,4 +1,3 @@
-use Prim.Native.Nat.{◌-◌}
 use Rattle.printing.proofs.Writes.{copy_all}
 use Rattle.printing.proofs.write.put_text.Goals as goal
 

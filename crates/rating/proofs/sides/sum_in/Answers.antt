@@ -1,4 +1,3 @@
-use Prim.Native.Nat.{◌-◌}
 use borrow.Author.Rules.{rules}
 use Rattle.rating.proofs.Summing.{summing_start, count_fits, entry_lent, summing_more, summing_end}
 use Rattle.rating.proofs.sides.sum_in.Goals as goal

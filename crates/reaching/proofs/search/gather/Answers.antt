@@ -1,4 +1,3 @@
-use Prim.Native.Nat.{◌-◌}
 use borrow.Author.Rules.{rules}
 use Rattle.reaching.proofs.Gather.{gathering_start, gathering_end, gathering_in, gathering_length, gathering_fits, gathering_put, gathering_sum, gathering_tail, gathering_less, gathering_more, gathering_back}
 use Rattle.reaching.proofs.search.gather.Goals as goal

@@ -1,5 +1,4 @@
 use native.Mathlib.Omega.{arith}
-use Prim.Native.Nat.{◌-◌}
 use borrow.Author.Rules.{rules}
 use Rattle.lending.proofs.Kept.{kept_none}
 use Rattle.reaching.proofs.Queue.{queue_none, queue_few}

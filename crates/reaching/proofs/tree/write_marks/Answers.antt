@@ -1,4 +1,3 @@
-use Prim.Native.Nat.{◌-◌}
 use native.Mathlib.Omega.{arith}
 use Rattle.reaching.proofs.Writing.{copied_start, copied_length, copied_fits, copied_more, copied_all}
 use Rattle.reaching.proofs.tree.write_marks.Goals as goal

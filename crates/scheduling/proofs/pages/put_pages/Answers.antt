@@ -1,4 +1,3 @@
-use Prim.Native.Nat.{◌-◌}
 use native.Mathlib.Omega.{arith}
 use borrow.Author.Rules.{rules}
 use Rattle.scheduling.proofs.Paging.{paged_start, break_room, row_room, paged_more, total_room, paged_end}

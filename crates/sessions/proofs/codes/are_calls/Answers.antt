@@ -1,4 +1,3 @@
-use Prim.Native.Nat.{◌-◌}
 use Rattle.sessions.proofs.Coded.{passed_start, passed_more, passed_not, passed_end}
 use Rattle.sessions.proofs.codes.are_calls.Goals as goal
 

@@ -1,4 +1,3 @@
-use Prim.Native.Nat.{◌-◌}
 use Rattle.sessions.proofs.Passing.{partway_start, partway_more, partway_end}
 use Rattle.sessions.proofs.runs.run.Goals as goal
 

@@ -1,4 +1,3 @@
-use Prim.Native.Nat.{◌-◌}
 use Rattle.sizing.proofs.Letters.{going_start, going_ready, going_counted, going_on, going_off, going_end}
 use Rattle.sizing.proofs.counts.count.Goals as goal
 

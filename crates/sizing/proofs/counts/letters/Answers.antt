@@ -1,4 +1,3 @@
-use Prim.Native.Nat.{◌-◌}
 use Rattle.sizing.proofs.Letters.{lettering_start, lettering_neither, lettering_goes, lettering_leaves, lettering_end}
 use Rattle.sizing.proofs.counts.letters.Goals.{else-x-v, then-x-v+else-depth-closing}
 use Rattle.sizing.proofs.counts.letters.Goals as goal

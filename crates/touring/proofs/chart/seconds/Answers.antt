@@ -1,4 +1,3 @@
-use Prim.Native.Nat.{◌-◌}
 use Rattle.touring.proofs.Touring.{telling_all, telling_flag, telling_here, telling_length, telling_more, telling_place, telling_scaled, telling_start, telling_stored, telling_sum}
 use Rattle.touring.proofs.chart.seconds.Goals as goal
 

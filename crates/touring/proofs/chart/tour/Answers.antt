@@ -1,4 +1,3 @@
-use Prim.Native.Nat.{◌-◌}
 use Rattle.touring.proofs.Touring.{touring_all, touring_end, touring_entry, touring_index, touring_length, touring_more, touring_narrow, touring_outside, touring_start}
 use Rattle.touring.proofs.chart.tour.Goals as goal
 

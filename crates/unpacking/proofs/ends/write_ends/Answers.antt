@@ -1,4 +1,3 @@
-use Prim.Native.Nat.{◌-◌}
 use borrow.Author.Rules.{rules}
 use Rattle.unpacking.proofs.Placed.{placing_start, placing_room, mate_room, end_small, placing_opens, placing_closes, placing_end}
 use Rattle.unpacking.proofs.ends.write_ends.Goals.{else-p-q, then-p-q}

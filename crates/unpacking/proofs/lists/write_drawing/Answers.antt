@@ -1,5 +1,4 @@
 use mathlib.Core.Path.{refl}
-use Prim.Native.Nat.{◌-◌}
 use borrow.Author.Rules.{rules}
 use Rattle.unpacking.proofs.Written.{writing_start, mate_few, round_below, turning_room, marks_room, writing_more, writing_turning, writing_marks}
 use Rattle.unpacking.proofs.lists.write_drawing.Goals as goal

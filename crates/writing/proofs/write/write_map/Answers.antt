@@ -1,5 +1,4 @@
 use mathlib.Core.Path.{◌∙◌}
-use Prim.Native.Nat.{◌-◌}
 use native.Mathlib.Omega.{arith}
 use Rattle.lettering.proofs.Keeping.{lettered_begun, lettered_fresh, lettered_then, lettered_asks, lettered_more}
 use Rattle.lettering.proofs.Ending.{lettered_length, lettered_all}
