@@ -9,7 +9,7 @@ use answers::Area;
 use giving::{give_count, give_factor, give_place};
 
 // The area's first place, or 0 if m = 0.
-#[tactic(auto, using(format::proofs::Small::first_fits))]
+#[tactic(auto, using(crate::proofs::Given::fits_all))]
 #[unsafe(no_mangle)]
 pub extern "C" fn pmap_area_first(map: &[u8], area: usize, out: &mut u16) -> u8
     ensures value { result ≡ number_of (first_of map.now Kind.area area) }
@@ -19,7 +19,7 @@ pub extern "C" fn pmap_area_first(map: &[u8], area: usize, out: &mut u16) -> u8
 }
 
 // How many places the area has.
-#[tactic(auto, using(format::proofs::Small::size_fits_lem))]
+#[tactic(auto, using(crate::proofs::Given::fits_all))]
 #[unsafe(no_mangle)]
 pub extern "C" fn pmap_sides(map: &[u8], area: usize, out: &mut u16) -> u8
     ensures value { result ≡ number_of (size_of map.now Kind.area area) }
@@ -29,7 +29,7 @@ pub extern "C" fn pmap_sides(map: &[u8], area: usize, out: &mut u16) -> u8
 }
 
 // The area's neighbour count.
-#[tactic(auto, using(format::proofs::Small::neighbours_fit))]
+#[tactic(auto, using(crate::proofs::Given::fits_all))]
 #[unsafe(no_mangle)]
 pub extern "C" fn pmap_neighbours(map: &[u8], area: usize, out: &mut u16) -> u8
     ensures value { result ≡ number_of (neighbours_of map.now area) }

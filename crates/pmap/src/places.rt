@@ -8,7 +8,7 @@ use answers::Place;
 use giving::{give_area, give_place, give_point, give_turn};
 
 // The place of the other end.
-#[tactic(auto, using(format::proofs::Small::cross_fits))]
+#[tactic(auto, using(crate::proofs::Given::fits_all))]
 #[unsafe(no_mangle)]
 pub extern "C" fn pmap_cross(map: &[u8], place: usize, out: &mut u16) -> u8
     ensures value { result ≡ number_of (cross_of map.now place) }
@@ -18,7 +18,7 @@ pub extern "C" fn pmap_cross(map: &[u8], place: usize, out: &mut u16) -> u8
 }
 
 // The next place about the point; after the last the first, and then it has gone round.
-#[tactic(auto, using(format::proofs::Small::turn_fits))]
+#[tactic(auto, using(crate::proofs::Given::fits_all))]
 #[unsafe(no_mangle)]
 pub extern "C" fn pmap_turn(map: &[u8], place: usize, out: &mut u16, round: &mut u8) -> u8
     ensures value { result ≡ number_of (turn_of map.now place) }
@@ -29,7 +29,7 @@ pub extern "C" fn pmap_turn(map: &[u8], place: usize, out: &mut u16, round: &mut
 }
 
 // The reverse; before the first the last, and then it has gone round.
-#[tactic(auto, using(format::proofs::Small::turn_back_fits))]
+#[tactic(auto, using(crate::proofs::Given::fits_all))]
 #[unsafe(no_mangle)]
 pub extern "C" fn pmap_turn_back(map: &[u8], place: usize, out: &mut u16, round: &mut u8) -> u8
     ensures value { result ≡ number_of (turn_back_of map.now place) }
@@ -40,7 +40,7 @@ pub extern "C" fn pmap_turn_back(map: &[u8], place: usize, out: &mut u16, round:
 }
 
 // The next place of the area walk.
-#[tactic(auto, using(format::proofs::Small::along_fits))]
+#[tactic(auto, using(crate::proofs::Given::fits_all))]
 #[unsafe(no_mangle)]
 pub extern "C" fn pmap_along(map: &[u8], place: usize, out: &mut u16) -> u8
     ensures value { result ≡ number_of (along_of map.now place) }
@@ -50,7 +50,7 @@ pub extern "C" fn pmap_along(map: &[u8], place: usize, out: &mut u16) -> u8
 }
 
 // The point of the place.
-#[tactic(auto, using(format::proofs::Small::point_fits))]
+#[tactic(auto, using(crate::proofs::Given::fits_all))]
 #[unsafe(no_mangle)]
 pub extern "C" fn pmap_point(map: &[u8], place: usize, out: &mut u16) -> u8
     ensures value { result ≡ number_of (point_of map.now place) }
@@ -60,7 +60,7 @@ pub extern "C" fn pmap_point(map: &[u8], place: usize, out: &mut u16) -> u8
 }
 
 // The area of the place.
-#[tactic(auto, using(format::proofs::Small::area_fits))]
+#[tactic(auto, using(crate::proofs::Given::fits_all))]
 #[unsafe(no_mangle)]
 pub extern "C" fn pmap_area(map: &[u8], place: usize, out: &mut u16) -> u8
     ensures value { result ≡ number_of (area_of map.now place) }

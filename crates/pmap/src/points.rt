@@ -8,7 +8,7 @@ use answers::Point;
 use giving::{give_count, give_place};
 
 // The point's first place, or 0 if m = 0.
-#[tactic(auto, using(format::proofs::Small::first_fits))]
+#[tactic(auto, using(crate::proofs::Given::fits_all))]
 #[unsafe(no_mangle)]
 pub extern "C" fn pmap_point_first(map: &[u8], point: usize, out: &mut u16) -> u8
     ensures value { result ≡ number_of (first_of map.now Kind.point point) }
@@ -18,7 +18,7 @@ pub extern "C" fn pmap_point_first(map: &[u8], point: usize, out: &mut u16) -> u
 }
 
 // How many places the point has.
-#[tactic(auto, using(format::proofs::Small::size_fits_lem))]
+#[tactic(auto, using(crate::proofs::Given::fits_all))]
 #[unsafe(no_mangle)]
 pub extern "C" fn pmap_degree(map: &[u8], point: usize, out: &mut u16) -> u8
     ensures value { result ≡ number_of (size_of map.now Kind.point point) }
@@ -28,7 +28,7 @@ pub extern "C" fn pmap_degree(map: &[u8], point: usize, out: &mut u16) -> u8
 }
 
 // The first place about u, in turning order, whose crossing lands at v, or 0 if none does.
-#[tactic(auto, using(format::proofs::Small::joining_fits))]
+#[tactic(auto, using(crate::proofs::Given::fits_all))]
 #[unsafe(no_mangle)]
 pub extern "C" fn pmap_joining(map: &[u8], u: usize, v: usize, out: &mut u16) -> u8
     ensures value { result ≡ number_of (joining_of map.now u v) }
