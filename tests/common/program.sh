@@ -19,15 +19,25 @@ try_examples() { # INPUT-ENDING OUTPUT-ENDING
     check $? "./$name needs more than 1 MiB of stack"
 }
 
-# What ./NAME says of its progress: as many crates as rt proves. It is built, so that an rt that does nothing is enough here.
+# A crate and all that it rests on, by crates.txt, without the library's own.
+resting() { # CRATE
+    local crate known='' reached=$1
+    while [ "$reached" != "$known" ]; do
+        known=$reached
+        reached=$(for crate in $known; do echo "$crate"; sed -nE "s/^$crate( staticlib)?:([^#]*).*/\2/p" crates.txt; done | tr -s ' ' '\n' | grep . | sort -u)
+    done
+    for crate in $known; do grep -qE "^$crate( staticlib)?:" crates.txt && echo "$crate"; done
+}
+
+# What ./NAME says of its progress: as many crates as are to be proved. It is built, so that an rt that does nothing is enough here.
 try_progress() { # INPUT
     local told counted
     mkdir -p "$work/idle" && printf '#!/bin/sh\n' >"$work/idle/rt" && chmod +x "$work/idle/rt"
     touch -d @0 "$program"
     told=$(PATH=$work/idle:$PATH "./$name" <"$1" 2>&1 >/dev/null | sed -n 's/.*once: \([0-9]*\) crates.*/\1/p')
-    counted=$(rt ci "$name" 2>&1 | grep -cE '^rt: [a-z0-9_]+ (proved$|is kept:)')
+    counted=$(resting "$name" | wc -l)
     [ -n "$told" ] && [ "$told" = "$counted" ]
-    check $? "./$name counts $told crates, and rt proves $counted"
+    check $? "./$name counts $told crates, and crates.txt has $counted"
 }
 
 # An input that can't be read, or that fails after some bytes, is refused: what was cut off is never taken for the whole.
