@@ -1,143 +1,150 @@
--- A contract that says what an answer means fixes the answer: no two cases of an enum, and no two values in a case, mean the same.
+-- A contract that says what an answer means fixes the answer: no two answers of a call mean the same.
 --
--- fixed            == if every answer can be read back from what it means, answers that mean the same are the same
--- read_back         == from what is meant to the answer, of an enum with a case for values and one for refusals that carry nothing
--- opened_fixed, place_fixed, turn_fixed, point_fixed, area_fixed, count_fixed, factor_fixed, packed_fixed, unpacked_fixed, parsed_fixed == so it is with
---                     each enum
+-- by_number        == the refusals in the order of their numbers
+-- refusal_back     == the refusal with a number and what it carries
+-- refusal_reads    == of every refusal
+-- means_back       == from what is meant to the answer, where the value can be read back
+-- means_fixed      == where the value can be read back, answers that mean the same are the same
+-- opened_fixed, place_fixed, turn_fixed, point_fixed, area_fixed, count_fixed, factor_fixed, packed_fixed, unpacked_fixed, parsed_fixed
+--                  == so it is with each call's answer
 -- rehearsed_fixed  == and with a rehearsal's, by what it says of packing and what it means
 -- Assumes nothing.
 use mathlib.Core.Path.{◌≡◌, refl, sym, ap, ◌∙◌}
-use mathlib.Core.List.{[], ◌∷◌}
+use mathlib.Core.List.{List, [], ◌∷◌}
 use Prim.Native.Nat.{ℕ}
-use Rattle.answers.specs.Answer.{Answer, answer, refused_with, Reply, Size}
-use Rattle.answers.specs.Means.{opened_means, place_means, turn_means, point_means, area_means, count_means, factor_means, packed_means, unpacked_means, parsed_means, packing_said, rehearsed_means}
-use Rattle.answers.specs.declared.cases.Opened.{Opened}
-use Rattle.answers.specs.declared.cases.PlaceAnswer.{PlaceAnswer}
-use Rattle.answers.specs.declared.cases.TurnAnswer.{TurnAnswer}
-use Rattle.answers.specs.declared.cases.PointAnswer.{PointAnswer}
-use Rattle.answers.specs.declared.cases.AreaAnswer.{AreaAnswer}
-use Rattle.answers.specs.declared.cases.Count.{Count}
-use Rattle.answers.specs.declared.cases.FactorAnswer.{FactorAnswer}
-use Rattle.answers.specs.declared.cases.Packed.{Packed}
-use Rattle.answers.specs.declared.cases.Unpacked.{Unpacked}
-use Rattle.answers.specs.declared.cases.Parsed.{Parsed}
-use Rattle.answers.specs.declared.cases.Rehearsed.{Rehearsed}
+use lib.ListN.{get_or}
+use Rattle.std.specs.Prelude.{Result, Ok, Err, Float}
+use Rattle.answers.specs.Answer.{Answer, answer, refused_with, Reply}
+use Rattle.answers.specs.declared.given.Size.{Size}
+use Rattle.answers.specs.Means.{number, carried, means, opened_means, place_means, turn_means, turn_reply, point_means, area_means, count_means, factor_means, packed_means, unpacked_means, parsed_means, packing_said, rehearsed_means}
+use Rattle.answers.specs.declared.numbers.Place.{Place}
+use Rattle.answers.specs.declared.numbers.Point.{Point}
+use Rattle.answers.specs.declared.numbers.Area.{Area}
+use Rattle.answers.specs.declared.given.Turn.{Turn}
+use Rattle.answers.specs.declared.given.Rehearsal.{Rehearsal}
+use Rattle.answers.specs.declared.refusal.Refusal.{Refusal}
 
-pub fixed : {R B : Type 0} → (means : R → B) (back : B → R) → ((r : R) → back (means r) ≡ r) → (r q : R) → means r ≡ means q → r ≡ q
-fixed means back reads r q e = sym (reads r) ∙ ap back e ∙ reads q
+-- the refusals that carry nothing, each at its number; none has 0 or 7
+by_number : List Refusal
+by_number =
+    Refusal.NoCall
+    ∷ Refusal.Lists
+    ∷ Refusal.Room
+    ∷ Refusal.Range
+    ∷ Refusal.Repeated
+    ∷ Refusal.Apart
+    ∷ Refusal.ManyMarks
+    ∷ Refusal.NoCall
+    ∷ Refusal.Header
+    ∷ Refusal.Length
+    ∷ Refusal.UnusedBit
+    ∷ Refusal.Ones
+    ∷ Refusal.Brackets
+    ∷ Refusal.NoPlace
+    ∷ Refusal.NoPoint
+    ∷ Refusal.NoArea
+    ∷ Refusal.ShortLists
+    ∷ Refusal.Text
+    ∷ Refusal.Tariff
+    ∷ Refusal.NoFactor
+    ∷ Refusal.Areas
+    ∷ Refusal.Pieces
+    ∷ []
 
-read_back : {R A : Type 0} → (A → R) → (ℕ → R) → Answer A → R
-read_back value declined (answer x) = value x
-read_back value declined (refused_with k xs) = declined k
+refusal_back : ℕ → List ℕ → Refusal
+refusal_back k (a ∷ (b ∷ xs)) = Refusal.Crossing a b
+refusal_back k xs = get_or by_number k Refusal.NoCall
 
-opened_reads : (r : Opened) → read_back (λ (z : Size). Opened.Size z.m z.n) Opened.Declined (opened_means r) ≡ r
-unfolding read_back
-opened_reads (Opened.Size m n) = refl
-opened_reads (Opened.Declined k) = refl
+refusal_reads : (e : Refusal) → refusal_back (number e) (carried e) ≡ e
+unfolding refusal_back by_number
+refusal_reads Refusal.Lists = refl
+refusal_reads Refusal.Room = refl
+refusal_reads Refusal.Range = refl
+refusal_reads Refusal.Repeated = refl
+refusal_reads Refusal.Apart = refl
+refusal_reads Refusal.ManyMarks = refl
+refusal_reads (Refusal.Crossing a b) = refl
+refusal_reads Refusal.Header = refl
+refusal_reads Refusal.Length = refl
+refusal_reads Refusal.UnusedBit = refl
+refusal_reads Refusal.Ones = refl
+refusal_reads Refusal.Brackets = refl
+refusal_reads Refusal.NoPlace = refl
+refusal_reads Refusal.NoPoint = refl
+refusal_reads Refusal.NoArea = refl
+refusal_reads Refusal.ShortLists = refl
+refusal_reads Refusal.Text = refl
+refusal_reads Refusal.Tariff = refl
+refusal_reads Refusal.NoFactor = refl
+refusal_reads Refusal.Areas = refl
+refusal_reads Refusal.Pieces = refl
+refusal_reads Refusal.NoCall = refl
 
-pub opened_fixed : (r q : Opened) → opened_means r ≡ opened_means q → r ≡ q
-opened_fixed = fixed opened_means (read_back (λ (z : Size). Opened.Size z.m z.n) Opened.Declined) opened_reads
+means_back : {T A : Type 0} → (A → T) → Answer A → Result T Refusal
+means_back g (answer x) = Ok (g x)
+means_back g (refused_with k xs) = Err (refusal_back k xs)
 
-abbrev place_back : Answer ℕ → PlaceAnswer
-place_back = read_back (λ x. PlaceAnswer.At (record { 0 = x })) PlaceAnswer.Declined
+pub means_fixed : {T A : Type 0} → (f : T → A) (g : A → T) → ((x : T) → g (f x) ≡ x) → (r q : Result T Refusal) → means f r ≡ means f q → r ≡ q
+unfolding means_back
+means_fixed {T} {A} f g h r q e = sym (reads r) ∙ ap (means_back g) e ∙ reads q
+  where
+    reads : (r : Result T Refusal) → means_back g (means f r) ≡ r
+    reads (Ok x) = ap Ok (h x)
+    reads (Err e) = ap Err (refusal_reads e)
 
-place_reads : (r : PlaceAnswer) → place_back (place_means r) ≡ r
-unfolding read_back
-place_reads (PlaceAnswer.At x) = refl
-place_reads (PlaceAnswer.Declined k) = refl
+pub opened_fixed : (r q : Result Size Refusal) → opened_means r ≡ opened_means q → r ≡ q
+opened_fixed = means_fixed (λ (z : Size). z) (λ z. z) (λ x. refl)
 
-pub place_fixed : (r q : PlaceAnswer) → place_means r ≡ place_means q → r ≡ q
-place_fixed = fixed place_means place_back place_reads
+pub place_fixed : (r q : Result Place Refusal) → place_means r ≡ place_means q → r ≡ q
+place_fixed = means_fixed (λ (p : Place). p.0) (λ x. record { 0 = x }) (λ x. refl)
 
-abbrev turn_back : Answer Reply → TurnAnswer
-turn_back = read_back (λ (r : Reply). TurnAnswer.At (record { 0 = r.value }) r.sign) TurnAnswer.Declined
+pub turn_fixed : (r q : Result Turn Refusal) → turn_means r ≡ turn_means q → r ≡ q
+turn_fixed = means_fixed turn_reply (λ (r : Reply). record { place = record { 0 = r.value }; round = r.sign }) (λ x. refl)
 
-turn_reads : (r : TurnAnswer) → turn_back (turn_means r) ≡ r
-unfolding read_back
-turn_reads (TurnAnswer.At x t) = refl
-turn_reads (TurnAnswer.Declined k) = refl
+pub point_fixed : (r q : Result Point Refusal) → point_means r ≡ point_means q → r ≡ q
+point_fixed = means_fixed (λ (p : Point). p.0) (λ x. record { 0 = x }) (λ x. refl)
 
-pub turn_fixed : (r q : TurnAnswer) → turn_means r ≡ turn_means q → r ≡ q
-turn_fixed = fixed turn_means turn_back turn_reads
+pub area_fixed : (r q : Result Area Refusal) → area_means r ≡ area_means q → r ≡ q
+area_fixed = means_fixed (λ (a : Area). a.0) (λ x. record { 0 = x }) (λ x. refl)
 
-point_reads : (r : PointAnswer) → read_back (λ x. PointAnswer.Is (record { 0 = x })) PointAnswer.Declined (point_means r) ≡ r
-unfolding read_back
-point_reads (PointAnswer.Is x) = refl
-point_reads (PointAnswer.Declined k) = refl
+pub count_fixed : (r q : Result ℕ Refusal) → count_means r ≡ count_means q → r ≡ q
+count_fixed = means_fixed (λ (x : ℕ). x) (λ x. x) (λ x. refl)
 
-pub point_fixed : (r q : PointAnswer) → point_means r ≡ point_means q → r ≡ q
-point_fixed = fixed point_means (read_back (λ x. PointAnswer.Is (record { 0 = x })) PointAnswer.Declined) point_reads
+pub factor_fixed : (r q : Result Float Refusal) → factor_means r ≡ factor_means q → r ≡ q
+factor_fixed = means_fixed (λ (x : Float). x) (λ x. x) (λ x. refl)
 
-area_reads : (r : AreaAnswer) → read_back (λ x. AreaAnswer.Is (record { 0 = x })) AreaAnswer.Declined (area_means r) ≡ r
-unfolding read_back
-area_reads (AreaAnswer.Is x) = refl
-area_reads (AreaAnswer.Declined k) = refl
+pub packed_fixed : (r q : Result ℕ Refusal) → packed_means r ≡ packed_means q → r ≡ q
+packed_fixed = count_fixed
 
-pub area_fixed : (r q : AreaAnswer) → area_means r ≡ area_means q → r ≡ q
-area_fixed = fixed area_means (read_back (λ x. AreaAnswer.Is (record { 0 = x })) AreaAnswer.Declined) area_reads
+pub unpacked_fixed : (r q : Result ℕ Refusal) → unpacked_means r ≡ unpacked_means q → r ≡ q
+unpacked_fixed = count_fixed
 
-count_reads : (r : Count) → read_back Count.Of Count.Declined (count_means r) ≡ r
-unfolding read_back
-count_reads (Count.Of x) = refl
-count_reads (Count.Declined k) = refl
-
-pub count_fixed : (r q : Count) → count_means r ≡ count_means q → r ≡ q
-count_fixed = fixed count_means (read_back Count.Of Count.Declined) count_reads
-
-factor_reads : (r : FactorAnswer) → read_back FactorAnswer.Is FactorAnswer.Declined (factor_means r) ≡ r
-unfolding read_back
-factor_reads (FactorAnswer.Is x) = refl
-factor_reads (FactorAnswer.Declined k) = refl
-
-pub factor_fixed : (r q : FactorAnswer) → factor_means r ≡ factor_means q → r ≡ q
-factor_fixed = fixed factor_means (read_back FactorAnswer.Is FactorAnswer.Declined) factor_reads
-
-unpacked_reads : (r : Unpacked) → read_back Unpacked.Borders Unpacked.Declined (unpacked_means r) ≡ r
-unfolding read_back
-unpacked_reads (Unpacked.Borders x) = refl
-unpacked_reads (Unpacked.Declined k) = refl
-
-pub unpacked_fixed : (r q : Unpacked) → unpacked_means r ≡ unpacked_means q → r ≡ q
-unpacked_fixed = fixed unpacked_means (read_back Unpacked.Borders Unpacked.Declined) unpacked_reads
-
-parsed_reads : (r : Parsed) → read_back Parsed.Borders Parsed.Declined (parsed_means r) ≡ r
-unfolding read_back
-parsed_reads (Parsed.Borders x) = refl
-parsed_reads (Parsed.Declined k) = refl
-
-pub parsed_fixed : (r q : Parsed) → parsed_means r ≡ parsed_means q → r ≡ q
-parsed_fixed = fixed parsed_means (read_back Parsed.Borders Parsed.Declined) parsed_reads
-
-packed_back : Answer ℕ → Packed
-packed_back (answer l) = Packed.Length l
-packed_back (refused_with k []) = Packed.Declined k
-packed_back (refused_with k (a ∷ [])) = Packed.Declined k
-packed_back (refused_with k (a ∷ (b ∷ xs))) = Packed.Crossing a b
-
-packed_reads : (r : Packed) → packed_back (packed_means r) ≡ r
-unfolding packed_back
-packed_reads (Packed.Length l) = refl
-packed_reads (Packed.Crossing a b) = refl
-packed_reads (Packed.Declined k) = refl
-
-pub packed_fixed : (r q : Packed) → packed_means r ≡ packed_means q → r ≡ q
-packed_fixed = fixed packed_means packed_back packed_reads
+pub parsed_fixed : (r q : Result ℕ Refusal) → parsed_means r ≡ parsed_means q → r ≡ q
+parsed_fixed = count_fixed
 
 -- what packing said, and the place left or the session's refusal
-rehearsed_of : Packed → PlaceAnswer → Rehearsed
-rehearsed_of (Packed.Length l) x = Rehearsed.Session l x
-rehearsed_of (Packed.Crossing a b) x = Rehearsed.Crossing a b
-rehearsed_of (Packed.Declined k) x = Rehearsed.Declined k
+rehearsed_of : Result ℕ Refusal → Result Place Refusal → Result Rehearsal Refusal
+rehearsed_of (Ok l) x = Ok (record { length = l; left = x })
+rehearsed_of (Err e) x = Err e
 
-rehearsed_reads : (r : Rehearsed) → rehearsed_of (packed_back (packing_said r)) (place_back (rehearsed_means r)) ≡ r
-unfolding packed_back read_back rehearsed_of
-rehearsed_reads (Rehearsed.Session l r) = ap (Rehearsed.Session l) (place_reads r)
-rehearsed_reads (Rehearsed.Crossing a b) = refl
-rehearsed_reads (Rehearsed.Declined k) = refl
-
-pub rehearsed_fixed : (r q : Rehearsed) → packing_said r ≡ packing_said q → rehearsed_means r ≡ rehearsed_means q → r ≡ q
+pub rehearsed_fixed : (r q : Result Rehearsal Refusal) → packing_said r ≡ packing_said q → rehearsed_means r ≡ rehearsed_means q → r ≡ q
+unfolding means_back rehearsed_of
 rehearsed_fixed r q d e =
-    sym (rehearsed_reads r)
-    ∙ ap (λ a. rehearsed_of (packed_back a) (place_back (rehearsed_means r))) d
-    ∙ ap (λ a. rehearsed_of (packed_back (packing_said q)) (place_back a)) e
-    ∙ rehearsed_reads q
+    sym (reads r)
+    ∙ ap (λ a. rehearsed_of (length_back a) (place_back (rehearsed_means r))) d
+    ∙ ap (λ a. rehearsed_of (length_back (packing_said q)) (place_back a)) e
+    ∙ reads q
+  where
+    length_back : Answer ℕ → Result ℕ Refusal
+    length_back = means_back (λ (l : ℕ). l)
+
+    place_back : Answer ℕ → Result Place Refusal
+    place_back = means_back (λ (x : ℕ). record { 0 = x })
+
+    left_reads : (x : Result Place Refusal) → place_back (place_means x) ≡ x
+    left_reads (Ok p) = refl
+    left_reads (Err e) = ap Err (refusal_reads e)
+
+    reads : (r : Result Rehearsal Refusal) → rehearsed_of (length_back (packing_said r)) (place_back (rehearsed_means r)) ≡ r
+    reads (Ok r) = ap (λ p. Ok (record { length = r.length; left = p })) (left_reads r.left)
+    reads (Err e) = ap Err (refusal_reads e)

@@ -2,4 +2,5 @@
 pub mod Computed
 pub mod Fixed
 pub mod Order
+pub mod Passing
 pub mod Steps

@@ -11,7 +11,6 @@
 -- unsigned x       == the number x without the sign
 -- plain a          == the number alone, or the refusal
 -- gone_round a      == 1 with the sign and 0 without, or the refusal
--- Size             == m and n, which opening gives
 -- Kind             == what a cell is: a point (vertex) or an area (face)
 -- no_such c         == the refusal of a number that no point (area) has: 14 or 15
 -- Assumes nothing.
@@ -62,10 +61,6 @@ plain a = told (λ (r : Reply). r.value) a
 
 abbrev pub gone_round : Answer Reply → Answer ℕ
 gone_round a = told (λ (r : Reply). pick r.sign 1 0) a
-
-pub record Size : Type 0 where
-  pub m : ℕ
-  pub n : ℕ
 
 pub data Kind : Type 0 where
   point area : Kind

@@ -7,6 +7,7 @@
 -- refusal_in cs     == the number of the first check of cs whose test fails; 0 where none does
 -- checked cs a     == the refusal of that check, or a where none fails
 -- after cs x       == the answer x, after the checks cs
+-- alone cs         == what the checks cs give by themselves: that none fails, or the refusal
 -- check_at cs i     == the check at position i; where there is none, one that holds
 -- Hold cs e        == the first e checks hold
 -- FirstFails cs k xs == k and xs are those of the first check that fails
@@ -42,6 +43,9 @@ checked (c ∷ cs) a = pick c.test (checked cs a) (refused_with c.number c.carri
 
 abbrev pub after : {A : Type 0} → List Check → A → Answer A
 after cs x = checked cs (answer x)
+
+abbrev pub alone : List Check → Answer (Unit {0})
+alone cs = after cs (tt {0})
 
 abbrev pub check_at : List Check → ℕ → Check
 check_at cs i = get_or cs i (check 0 true Unit)

@@ -13,7 +13,8 @@ use lib.Dec.{ltb, leb}
 use lib.Ieee.{Float}
 use Rattle.count.specs.Below.{pick}
 use Rattle.count.proofs.Logic.{pick_both}
-use Rattle.answers.specs.Answer.{Answer, answer, refused, Size, Kind, no_such}
+use Rattle.answers.specs.Answer.{Answer, answer, refused, Kind, no_such}
+use Rattle.answers.specs.declared.given.Size.{Size}
 use Rattle.words.specs.Brackets.{Balanced, first}
 use Rattle.words.specs.declared.family.Family.{Family}
 use Rattle.words.specs.declared.family.Family.TheVariants.{Round as round}

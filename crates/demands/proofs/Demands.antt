@@ -30,7 +30,8 @@ use lib.Dec.{leb}
 use borrow.Author.Tests.{le-leb}
 use Rattle.count.proofs.Logic.{both, pick_yes}
 use Rattle.answers.specs.Lent.{laid, leaves}
-use Rattle.answers.specs.Answer.{Answer, answer, refused_with, refused, number_of, Size, Kind}
+use Rattle.answers.specs.Answer.{Answer, answer, refused_with, refused, number_of, Kind}
+use Rattle.answers.specs.declared.given.Size.{Size}
 use Rattle.drawing.specs.Drawing.{Drawing, borders, cells, ends}
 use Rattle.drawing.specs.Checks.{crosses, first_crossing, FirstCrossing, PassesSix, PassesSeven}
 use Rattle.drawing.proofs.Crossing.{first_crossing_lem}

@@ -9,7 +9,8 @@ use Prim.Native.Nat.{ℕ, suc, ◌<◌}
 use native.Mathlib.Omega.{arith}
 use Rattle.count.specs.Below.{table}
 use Rattle.count.proofs.Lists.{table_same}
-use Rattle.answers.specs.Answer.{Answer, answer, value_of, Size, Kind}
+use Rattle.answers.specs.Answer.{Answer, answer, value_of, Kind}
+use Rattle.answers.specs.declared.given.Size.{Size}
 use Rattle.drawing.specs.Drawing.{Drawing, cells}
 use Rattle.drawing.specs.Book.{book_first, book_size}
 use Rattle.format.specs.Bytes.{size_in}

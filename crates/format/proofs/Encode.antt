@@ -17,7 +17,7 @@ use lib.Dec.{eqb}
 use Rattle.count.specs.Below.{pick, count}
 use Rattle.count.proofs.Logic.{pick_yes, pick_no}
 use Rattle.count.proofs.Below.{count_same}
-use Rattle.answers.specs.Answer.{Size}
+use Rattle.answers.specs.declared.given.Size.{Size}
 use Rattle.words.specs.Brackets.{opens, closes, neither}
 use Rattle.words.specs.declared.family.Family.{Family}
 use Rattle.words.specs.declared.family.Family.TheVariants.{Round as round, Square as square}

@@ -16,7 +16,7 @@ use lib.ListN.{length, take}
 use lib.Seq.{get_or-take, length-take-le, take_all}
 use borrow.Author.Tests.{ne_eqb, le-leb}
 use Rattle.count.proofs.Logic.{lt_or_ge, true_or_false}
-use Rattle.answers.specs.Answer.{Size}
+use Rattle.answers.specs.declared.given.Size.{Size}
 use Rattle.bits.specs.Strings.{bytes_for}
 use Rattle.drawing.specs.Drawing.{most_borders}
 use Rattle.format.specs.Bytes.{at_m, at_n, at_areas, header, areas_of, size_in, written_areas, le16_at, start_b, map_length, longest}

@@ -13,7 +13,8 @@ use lib.Dec.{ltb, leb}
 use lib.ListN.{length, drop}
 use Rattle.count.specs.Below.{Decides}
 use Rattle.count.proofs.Decides.{decides_lt, decides_le, decides_both, decides_true}
-use Rattle.answers.specs.Answer.{Size, Kind}
+use Rattle.answers.specs.Answer.{Kind}
+use Rattle.answers.specs.declared.given.Size.{Size}
 use Rattle.answers.specs.Checks.{InOrder, Decided}
 use Rattle.answers.proofs.Order.{decided_append, in_order}
 use Rattle.words.specs.Brackets.{first}

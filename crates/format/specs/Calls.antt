@@ -18,7 +18,8 @@
 use Rattle.std.specs.Prelude.{Bool, true, false, ◌&&◌, List, [], ◌∷◌, ◌++◌, ℕ, zero, suc, pred, ◌≤◌, eqb, ltb, leb}
 use Rattle.count.specs.Below.{pick}
 use Rattle.answers.specs.Checks.{Check, check, after}
-use Rattle.answers.specs.Answer.{Answer, Reply, plain, Size, Kind, no_such}
+use Rattle.answers.specs.Answer.{Answer, Reply, plain, Kind, no_such}
+use Rattle.answers.specs.declared.given.Size.{Size}
 use Rattle.words.specs.Brackets.{step, back, number, is_first, is_last, first, size}
 use Rattle.words.specs.declared.family.Family.{Family}
 use Rattle.words.specs.declared.family.Family.TheVariants.{Round as round, Square as square}

@@ -15,7 +15,8 @@
 -- open_of s         == opening: m and n, or the refusal
 -- Assumes nothing.
 use Rattle.std.specs.Prelude.{◌≡◌, Bool, ◌&&◌, List, [], ◌∷◌, ℕ, ◌+◌, ◌-◌, ◌*◌, ◌≤◌, ◌<◌, length, eqb, leb}
-use Rattle.answers.specs.Answer.{Answer, Size}
+use Rattle.answers.specs.Answer.{Answer}
+use Rattle.answers.specs.declared.given.Size.{Size}
 use Rattle.answers.specs.Checks.{Check, check, refusal_in, after}
 use Rattle.words.specs.Brackets.{Balanced, balanced}
 use Rattle.words.specs.declared.family.Family.{Family}

@@ -17,7 +17,8 @@
 -- Assumes nothing.
 use Rattle.std.specs.Prelude.{Bool, not, ◌&&◌, List, [], ◌∷◌, ◌++◌, ℕ, ◌+◌, ◌*◌, ◌/◌, ◌≤◌, eqb, ltb, leb}
 use Rattle.count.specs.Below.{pick, count, find, table}
-use Rattle.answers.specs.Answer.{Answer, Size, Kind}
+use Rattle.answers.specs.Answer.{Answer, Kind}
+use Rattle.answers.specs.declared.given.Size.{Size}
 use Rattle.answers.specs.Checks.{Check, check, refusal_in, after}
 use Rattle.answers.specs.Lent.{cleared}
 use Rattle.words.specs.Brackets.{step}

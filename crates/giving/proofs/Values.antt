@@ -13,7 +13,8 @@ use Prim.Native.Nat.{ℕ, ◌<◌}
 use borrow.Author.Rules.{rules}
 use Rattle.count.specs.Below.{pick}
 use Rattle.answers.specs.Lent.{leaves, itself}
-use Rattle.answers.specs.Answer.{value_of, told, plain, gone_round, Size}
+use Rattle.answers.specs.Answer.{value_of, told, plain, gone_round}
+use Rattle.answers.specs.declared.given.Size.{Size}
 use Rattle.answers.specs.declared.cases.Opened.{Opened}
 use Rattle.answers.specs.Means.{opened_means, turn_means, unpacked_means}
 use Rattle.answers.specs.declared.numbers.Place.{Place}

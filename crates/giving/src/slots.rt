@@ -1,7 +1,8 @@
 // From an answer to a status and the slots that hold it.
 ghost use Rattle.std.specs.Prelude.{◌≡◌, ◌<◌};
 ghost use Rattle.count.specs.Below.{pick};
-ghost use Rattle.answers.specs.Answer.{number_of, value_of, told, plain, gone_round, Size};
+ghost use Rattle.answers.specs.Answer.{number_of, value_of, told, plain, gone_round};
+ghost use Rattle.answers.specs.declared.given.Size.{Size};
 ghost use Rattle.answers.specs.Means.{opened_means, place_means, turn_means, point_means, area_means, count_means, factor_means, unpacked_means};
 ghost use Rattle.answers.specs.Lent.{leaves, itself};
 

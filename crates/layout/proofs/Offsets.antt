@@ -15,7 +15,7 @@ use Prim.Native.Nat.{ℕ, zero, suc, ◌+◌, ◌-◌, ◌*◌, ◌≤◌, min}
 use native.Mathlib.Omega.{arith}
 use lib.ListN.{length, take, drop, length-drop, drop_of_length-le}
 use Rattle.count.proofs.Logic.{lt_or_ge}
-use Rattle.answers.specs.Answer.{Size}
+use Rattle.answers.specs.declared.given.Size.{Size}
 use Rattle.words.specs.declared.family.Family.{Family}
 use Rattle.words.specs.declared.family.Family.TheVariants.{Round as round, Square as square}
 use Rattle.bits.specs.Strings.{bytes_for}

@@ -11,7 +11,7 @@ use lib.ListN.{length, take, drop, length-take, length-drop, take-append-drop}
 use lib.Seq.{get_or-take, get_or-drop, drop-drop, ext_get_or}
 use Rattle.count.specs.Below.{count}
 use Rattle.answers.specs.Lent.{laid}
-use Rattle.answers.specs.Answer.{Size}
+use Rattle.answers.specs.declared.given.Size.{Size}
 use Rattle.words.specs.declared.family.Family.{Family}
 use Rattle.words.specs.declared.family.Family.TheVariants.{Round as round, Square as square}
 use Rattle.words.specs.Word.{Word}

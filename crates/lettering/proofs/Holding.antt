@@ -21,7 +21,7 @@ use lib.Seq.{get_or-set_other, get_or-append-add, get_or-take, get_or-drop}
 use Rattle.count.specs.Below.{pick}
 use Rattle.count.proofs.Logic.{same_or_not, lt_or_ge}
 use Rattle.answers.specs.Lent.{laid}
-use Rattle.answers.specs.Answer.{Size}
+use Rattle.answers.specs.declared.given.Size.{Size}
 use Rattle.bits.specs.Strings.{bit, bytes_for}
 use Rattle.bits.specs.Writes.{with_bit, set_bit}
 use Rattle.bits.proofs.Laws.{bit_past}

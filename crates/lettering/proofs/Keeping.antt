@@ -22,7 +22,7 @@ use Rattle.count.specs.Below.{pick, count}
 use Rattle.count.proofs.Logic.{true_or_false, true_not_false}
 use Rattle.count.proofs.Below.{count_zero, count_yes, count_no, count_before, count_le}
 use Rattle.answers.specs.Lent.{cleared, laid}
-use Rattle.answers.specs.Answer.{Size}
+use Rattle.answers.specs.declared.given.Size.{Size}
 use Rattle.words.specs.declared.family.Family.{Family}
 use Rattle.words.specs.declared.family.Family.TheVariants.{Round as round, Square as square}
 use Rattle.words.specs.Word.{same_family, Word}

@@ -12,7 +12,7 @@
 use Rattle.std.specs.Prelude.{◌≡◌, Bool, List, ℕ, ◌+◌, ◌-◌, ◌*◌, ◌/◌, ◌%◌, ◌<◌, ◌≤◌, length, get_or, set}
 use Rattle.count.specs.Below.{pick, count}
 use Rattle.answers.specs.Lent.{cleared, laid}
-use Rattle.answers.specs.Answer.{Size}
+use Rattle.answers.specs.declared.given.Size.{Size}
 use Rattle.words.specs.declared.family.Family.{Family}
 use Rattle.words.specs.declared.family.Family.TheVariants.{Round as round}
 use Rattle.words.specs.Word.{same_family, Word}

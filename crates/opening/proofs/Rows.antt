@@ -7,7 +7,7 @@
 -- unused_is, balanced_is, ones_is == what was computed of the parts is so of the map's strings
 -- unused_a_not, unused_b_not, unused_never, unused_left == 10, by the string that decides
 -- brackets_not, brackets_left == 12, by the string that decides
--- opens_size, opens_not  == opening gives m and n, or the number
+-- opens_size, opens_not  == opening gives m and n, or the refusal
 -- bytes_open, answer_opens == what opening accepts is a byte string that opens
 -- Assumes nothing.
 use mir.Syntax.{w8}
@@ -22,14 +22,16 @@ use lib.Dec.{eqb, leb}
 use lib.ListN.{length, get_or}
 use Rattle.count.proofs.Logic.{true_not_false}
 use Rattle.answers.proofs.Steps.{answered_none}
-use Rattle.answers.specs.Answer.{Answer, answer, refused, Size}
+use Rattle.answers.proofs.Passing.{declines, goes_on}
+use Rattle.answers.specs.Answer.{Answer, answer, refused_with}
+use Rattle.answers.specs.declared.given.Size.{Size}
 use Rattle.words.specs.Brackets.{balanced}
 use Rattle.words.specs.declared.family.Family.{Family}
 use Rattle.words.specs.declared.family.Family.TheVariants.{Round as round, Square as square}
 use Rattle.bits.specs.Strings.{rank, brackets, unused_zero}
 use Rattle.format.specs.Bytes.{header, areas_of, size_in, written_areas, bits_a, bits_b, map_length, part_a, part_b}
 use Rattle.format.specs.Open.{size_fits, areas_fit, length_fits, unused_fits, ones_fit, brackets_fit, open_checks, open_refusal, open_of, Opens}
-use Rattle.format.proofs.Passes.{opened_opens, opened_declines, opened}
+use Rattle.opening.specs.Checks.{open_check}
 
 -- a test r that was computed, and the test t that it computes
 module _ (r t : Bool) (e : r ≡ t) where
@@ -119,13 +121,13 @@ module _ (s : List ℕ) where
   brackets_left b c p h q = rw (← p, h, ← q)
 
   -- ---- opening
-  pub opens_size : (k m n : ℕ) → k ≡ open_refusal s → k ≡ 0 → m ≡ (size_in s).m → n ≡ (size_in s).n → ◌≡◌ {A = Answer Size} (answer (record { m = m; n = n })) (open_of s)
-  unfolding open_of opened
-  opens_size k m n e z p q = rw (p, q) (sym (opened_opens s (answer (size_in s)) (sym e ∙ z)))
+  pub opens_size : (m n : ℕ) → answer (tt {0}) ≡ open_check s → m ≡ (size_in s).m → n ≡ (size_in s).n → ◌≡◌ {A = Answer Size} (answer (record { m = m; n = n })) (open_of s)
+  unfolding open_of open_check
+  opens_size m n e p q = rw (p, q) (goes_on (open_checks s) (answer (size_in s)) e)
 
-  pub opens_not : (k : ℕ) → k ≡ open_refusal s → (k ≡ 0 → ⊥) → ◌≡◌ {A = Answer Size} (refused k) (open_of s)
-  unfolding open_of opened
-  opens_not k e n = ap refused e ∙ sym (opened_declines s (answer (size_in s)) (λ z. n (e ∙ z)))
+  pub opens_not : (k : ℕ) (xs : List ℕ) → refused_with k xs ≡ open_check s → ◌≡◌ {A = Answer Size} (refused_with k xs) (open_of s)
+  unfolding open_of open_check
+  opens_not k xs e = declines (open_checks s) (answer (size_in s)) k xs e
 
 -- ---- what is known of a `&[u8]`: each entry is a value of its type, so that what is accepted is a byte string
 pub bytes_open : (s : List ℕ) → ((i : ℕ) → Fits w8 (get_or s i 0)) → open_refusal s ≡ 0 → Opens s

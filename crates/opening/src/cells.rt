@@ -7,7 +7,7 @@ use answers::{Area, Point};
 use words::Family;
 
 // A point or an area, by its number.
-#[derive(Clone, Copy)]
+#[derive(Clone, Copy, Debug, PartialEq, Eq)]
 pub enum Cell {
     Point(Point),
     Area(Area),

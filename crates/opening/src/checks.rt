@@ -1,66 +1,62 @@
 // Opening: checks 8, 20 and 9 to 12, each in one pass over its strings.
 ghost use Rattle.std.specs.Prelude.{◌≡◌};
-ghost use Rattle.answers.specs.Answer.{answer, Size};
-ghost use Rattle.answers.specs.Means.{opened_means};
+ghost use Rattle.answers.specs.Answer.{answer};
+ghost use Rattle.answers.specs.Means.{checks_mean, opened_means};
 ghost use Rattle.words.specs.Brackets.{balanced};
 ghost use Rattle.bits.specs.Strings.{brackets, unused_zero};
 ghost use Rattle.format.specs.Bytes.{size_in, bits_a, bits_b, part_a, part_b};
 ghost use Rattle.format.specs.Open.{size_fits, areas_fit, length_fits, unused_fits, ones_fit, brackets_fit, open_refusal, Opens, open_of};
-ghost use Rattle.opening.specs.Checks.{header_refusal};
+ghost use Rattle.opening.specs.Checks.{open_check, header_check};
 
-use answers::Opened;
+use answers::{Refusal, Size};
 use format::{HEADER, MOST_BORDERS};
 use layout::{areas, bits_a, bits_b, borders, map_length, part_a, part_b, points, written_areas};
 use words::Family;
 
-// "Opening gives m and n", or the number of the check that declines. What it accepts is a byte string that opens.
-pub fn open(map: &[u8]) -> Opened
+// "Opening gives m and n", or the refusal of the check that declines. What it accepts is a byte string that opens.
+pub fn open(map: &[u8]) -> Result<Size, Refusal>
     ensures result_value { opened_means result ≡ open_of map.now }
-    ensures opens { (z : Size) → open_of map.now ≡ answer z → Opens map.now }
+    ensures opens { (z : _) → open_of map.now ≡ answer z → Opens map.now }
 {
-    let number = refusal(map);
-    if number == 0 {
-        Opened::Size(borders(map), points(map))
-    } else {
-        Opened::Declined(number)
-    }
+    check(map)?;
+    Ok(Size {
+        m: borders(map),
+        n: points(map),
+    })
 }
 
-// "Checks run in table order", and 20 "between 8 and 9": the number of the first that declines; 0 where none does.
-pub fn refusal(map: &[u8]) -> u8
-    ensures value { result ≡ open_refusal map.now }
+// "Checks run in table order", and 20 "between 8 and 9": the refusal of the first that declines.
+pub fn check(map: &[u8]) -> Result<(), Refusal>
+    ensures value { checks_mean result ≡ open_check map.now }
     ensures opens { open_refusal map.now ≡ 0 → Opens map.now }
 {
-    let number = header_refusal(map);
-    if number != 0 {
-        return number;
-    }
+    check_header(map)?;
     if !unused_fits(map) {
-        return 10;
+        return Err(Refusal::UnusedBit);
     }
     if !ones_fit(map) {
-        return 11;
+        return Err(Refusal::Ones);
     }
     if !brackets_fit(map) {
-        return 12;
+        return Err(Refusal::Brackets);
     }
-    0
+    Ok(())
 }
 
-// What the header and the length say by themselves: 8, 20 or 9, the first that declines; 0 where none does.
-fn header_refusal(map: &[u8]) -> u8
-    ensures { result ≡ header_refusal map.now }
+// What the header and the length say by themselves: 8, 20 or 9, the first that declines.
+fn check_header(map: &[u8]) -> Result<(), Refusal>
+    ensures { checks_mean result ≡ header_check map.now }
 {
     if !size_fits(map) {
-        return 8;
+        return Err(Refusal::Header);
     }
     if !areas_fit(map) {
-        return 20;
+        return Err(Refusal::Areas);
     }
     if !length_fits(map) {
-        return 9;
+        return Err(Refusal::Length);
     }
-    0
+    Ok(())
 }
 
 // 8: the header is not there, "m over 2,048, or n not 1 to m+1"

@@ -1,9 +1,9 @@
 // Opening a packed map from raw bytes, and what every call on one begins with.
 //
-//     open                                            m and n, or the number of the check that declines
-//     refusal                                         8, 20, 9 to 12: the first that declines; 0 where none does
-//     place_refusal                                   those, then 13; 0 where none applies
-//     cell_refusal                                    those, then 14 or 15; 0 where none applies
+//     open                                            m and n, or the refusal of the check that declines
+//     check                                           8, 20, 9 to 12: nothing, or the refusal of the first that declines
+//     check_place                                     those, then 13
+//     check_cell                                      those, then 14 or 15
 //     is_number                                       whether there is such a point, such an area
 //     Cell                                            a point or an area; its family of brackets, its number
 //
@@ -19,5 +19,5 @@ mod checks;
 mod numbers;
 
 pub use cells::Cell;
-pub use checks::{open, refusal};
-pub use numbers::{cell_refusal, is_number, place_refusal};
+pub use checks::{check, open};
+pub use numbers::{check_cell, check_place, is_number};

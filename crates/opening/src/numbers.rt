@@ -1,46 +1,41 @@
 // The check of a call's own number, after those of opening: 13, 14 and 15.
-ghost use Rattle.std.specs.Prelude.{◌≡◌};
+ghost use Rattle.std.specs.Prelude.{◌≡◌, []};
 ghost use Rattle.answers.specs.Answer.{no_such};
+ghost use Rattle.answers.specs.Means.{number, carried, checks_mean};
 ghost use Rattle.format.specs.Bytes.{size_in};
 ghost use Rattle.format.specs.Calls.{cells_in, is_number};
 ghost use Rattle.opening.specs.Cells.{kind_of, number_of_cell};
-ghost use Rattle.opening.specs.Checks.{place_refusal, cell_refusal};
+ghost use Rattle.opening.specs.Checks.{place_check, cell_check};
 
 use crate::cells::Cell;
-use crate::checks::refusal;
-use answers::Place;
+use crate::checks::check;
+use answers::{Place, Refusal};
 use layout::{areas, bits_a, points};
 
-// Opening's checks, then 13: "place not 1 to 2m"; 0 where none applies.
-pub fn place_refusal(map: &[u8], place: Place) -> u8
-    ensures { result ≡ place_refusal map.now place.0 }
+// Opening's checks, then 13: "place not 1 to 2m".
+pub fn check_place(map: &[u8], place: Place) -> Result<(), Refusal>
+    ensures { checks_mean result ≡ place_check map.now place.0 }
 {
+    check(map)?;
     let at = place.0;
-    let k = refusal(map);
-    if k != 0 {
-        return k;
-    }
     if at == 0 {
-        return 13;
+        return Err(Refusal::NoPlace);
     }
     if bits_a(map) < at {
-        return 13;
+        return Err(Refusal::NoPlace);
     }
-    0
+    Ok(())
 }
 
-// Opening's checks, then 14: "point not 1 to n", or 15: "area not 1 to m-n+2"; 0 where none applies.
-pub fn cell_refusal(map: &[u8], cell: Cell) -> u8
-    ensures { result ≡ cell_refusal map.now (kind_of cell) (number_of_cell cell) }
+// Opening's checks, then 14: "point not 1 to n", or 15: "area not 1 to m-n+2".
+pub fn check_cell(map: &[u8], cell: Cell) -> Result<(), Refusal>
+    ensures { checks_mean result ≡ cell_check map.now (kind_of cell) (number_of_cell cell) }
 {
-    let number = refusal(map);
-    if number != 0 {
-        return number;
+    check(map)?;
+    if !is_number(map, cell) {
+        return Err(no_such(cell));
     }
-    if is_number(map, cell) {
-        return 0;
-    }
-    no_such(cell)
+    Ok(())
 }
 
 // Whether there is such a point, such an area.
@@ -64,11 +59,12 @@ fn cells(map: &[u8], cell: Cell) -> usize
     }
 }
 
-fn no_such(cell: Cell) -> u8
-    ensures { result ≡ no_such (kind_of cell) }
+fn no_such(cell: Cell) -> Refusal
+    ensures value { number result ≡ no_such (kind_of cell) }
+    ensures bare { carried result ≡ [] }
 {
     match cell {
-        Cell::Point(_) => 14,
-        Cell::Area(_) => 15,
+        Cell::Point(_) => Refusal::NoPoint,
+        Cell::Area(_) => Refusal::NoArea,
     }
 }

@@ -7,7 +7,8 @@ use mathlib.Core.List.{List}
 use Prim.Native.Nat.{ℕ, ◌<◌}
 use native.Mathlib.Omega.{arith}
 use Rattle.answers.proofs.Steps.{by_checks}
-use Rattle.answers.specs.Answer.{answer, value_of, told, Size}
+use Rattle.answers.specs.Answer.{answer, value_of, told}
+use Rattle.answers.specs.declared.given.Size.{Size}
 use Rattle.format.specs.Bytes.{size_in}
 use Rattle.format.specs.Open.{open_checks, open_refusal, open_of}
 use Rattle.format.proofs.Passes.{opens_passes}

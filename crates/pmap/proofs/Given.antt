@@ -10,7 +10,8 @@ use mathlib.Core.Path.{◌≡◌, refl, ap, ◌∙◌}
 use mathlib.Core.List.{List}
 use Prim.Native.Nat.{ℕ, ◌<◌}
 use borrow.Author.Rules.{rules}
-use Rattle.answers.specs.Answer.{Answer, answer, refused_with, number_of, value_of, told, Reply, plain, gone_round, Size}
+use Rattle.answers.specs.Answer.{Answer, answer, refused_with, number_of, value_of, told, Reply, plain, gone_round}
+use Rattle.answers.specs.declared.given.Size.{Size}
 use Rattle.answers.specs.Lent.{leaves, itself}
 use Rattle.drawing.specs.Session.{Outcome}
 use Rattle.format.specs.Open.{open_of}

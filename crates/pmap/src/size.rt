@@ -1,6 +1,7 @@
 // Opening: m and n in two slots.
 ghost use Rattle.std.specs.Prelude.{◌≡◌};
-ghost use Rattle.answers.specs.Answer.{number_of, told, Size};
+ghost use Rattle.answers.specs.Answer.{number_of, told};
+ghost use Rattle.answers.specs.declared.given.Size.{Size};
 ghost use Rattle.answers.specs.Lent.{leaves, itself};
 ghost use Rattle.format.specs.Open.{open_of};
 

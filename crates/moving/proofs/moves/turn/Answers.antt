@@ -6,9 +6,9 @@ use Rattle.moving.proofs.Moved.{reply_declines, reply_answers}
 use borrow.Author.Rules.{rules}
 use Rattle.moving.proofs.moves.turn.Goals as goal
 
-pub returns-then-k-ne0 : goal.returns-then-k-ne0
+pub returns-in_err-check_place : goal.returns-in_err-check_place
 unfolding turn_of
-returns-then-k-ne0 c = search reply_declines
+returns-in_err-check_place c = search reply_declines
 
 pub overflow_sub-p : goal.overflow_sub-p
 overflow_sub-p c = search place_least

@@ -5,12 +5,12 @@ use Rattle.walking.proofs.Checked.{place_position}
 use Rattle.moving.proofs.Moved.{move_declines, point_answers}
 use Rattle.moving.proofs.numbers.point_at.Goals as goal
 
-pub returns-then-k-ne0 : goal.returns-then-k-ne0
+pub returns-in_err-check_place : goal.returns-in_err-check_place
 unfolding point_of
-returns-then-k-ne0 c = search move_declines
+returns-in_err-check_place c = search move_declines
 
-pub overflow_sub-at : goal.overflow_sub-at
-overflow_sub-at c = search place_least
+pub overflow_sub-place : goal.overflow_sub-place
+overflow_sub-place c = search place_least
 
 pub point_of-requires : goal.point_of-requires
 point_of-requires c = search place_position

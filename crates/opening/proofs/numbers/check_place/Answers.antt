@@ -1,9 +1,6 @@
--- `opening::numbers::place_refusal` meets its contract. Assumes nothing.
+-- `opening::numbers::check_place` meets its contract. Assumes nothing.
 use Rattle.opening.proofs.Refused.{place_refused, place_zero, place_far, place_in}
-use Rattle.opening.proofs.numbers.place_refusal.Goals as goal
-
-pub returns-then-k-ne0 : goal.returns-then-k-ne0
-returns-then-k-ne0 c = search place_refused
+use Rattle.opening.proofs.numbers.check_place.Goals as goal
 
 pub returns-then-at-eq0 : goal.returns-then-at-eq0
 returns-then-at-eq0 c = search place_zero
