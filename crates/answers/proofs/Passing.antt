@@ -1,5 +1,6 @@
 -- What a call may conclude from a function that runs its first checks: it declines with the same refusal, or goes on.
 --
+-- passed_up        == a refusal passed up by `?` means what it meant
 -- declines         == the refusal is that of the call
 -- declines_first   == and it is that of a call with more checks
 -- goes_on          == the call's own answer stands
@@ -11,10 +12,18 @@ use mathlib.Core.Bool.{false}
 use mathlib.Core.List.{List, ◌++◌}
 use Prim.Native.Nat.{ℕ}
 use lib.ListN.{length}
+use Rattle.std.specs.Prelude.{Result, IsErrAnd}
+use Rattle.std.proofs.lemmas.Result.{err_from_is_err_and}
 use Rattle.answers.specs.Answer.{Answer, answer, refused_with}
 use Rattle.answers.specs.Checks.{Check, refusal_in, checked, alone, check_at}
+use Rattle.answers.specs.Means.{number, carried, means}
+use Rattle.answers.specs.declared.refusal.Refusal.{Refusal}
 use Rattle.answers.proofs.Order.{checked_append}
 use Rattle.answers.proofs.Steps.{Passed, passes_all, refuses_at, answers_all, goes_on_with, answered_all, checked_refused}
+
+pub passed_up : {T A : Type 0} (f : T → A) (r : Result T Refusal) (e : Refusal) (a : Answer A) → IsErrAnd r (λ x. x ≡ e)
+    → refused_with (number e) (carried e) ≡ a → means f r ≡ a
+passed_up f r e a h g = let p = err_from_is_err_and r h in rw (p.1, p.2) g
 
 module _ (cs : List Check) where
   pub declines : {A : Type 0} (a : Answer A) (k : ℕ) (xs : List ℕ) → refused_with k xs ≡ alone cs → refused_with k xs ≡ checked cs a

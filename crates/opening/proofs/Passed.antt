@@ -17,7 +17,7 @@ use Rattle.answers.proofs.Passing.{declines, goes_on, none_refused}
 use Rattle.answers.specs.Answer.{Answer, answer, refused_with, Kind}
 use Rattle.format.specs.Bytes.{size_in, bits_a}
 use Rattle.format.specs.Open.{open_checks, open_refusal}
-use Rattle.format.specs.Calls.{place_checks, cells_in, is_number, cell_checks}
+use Rattle.format.specs.Calls.{place_checks, cells_in, cell_checks}
 use Rattle.opening.specs.Checks.{open_check, place_check, cell_check}
 use Rattle.opening.proofs.Refused.{in_range, range_has}
 

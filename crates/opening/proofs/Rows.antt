@@ -7,6 +7,7 @@
 -- unused_is, balanced_is, ones_is == what was computed of the parts is so of the map's strings
 -- unused_a_not, unused_b_not, unused_never, unused_left == 10, by the string that decides
 -- brackets_not, brackets_left == 12, by the string that decides
+-- header_refuses, strings_refuse, strings_pass == the refusal of the header's checks, of those after them, or none
 -- opens_size, opens_not  == opening gives m and n, or the refusal
 -- bytes_open, answer_opens == what opening accepts is a byte string that opens
 -- Assumes nothing.
@@ -21,8 +22,10 @@ use borrow.Author.Tests.{le-leb, lt-leb, not-true, not-false}
 use lib.Dec.{eqb, leb}
 use lib.ListN.{length, get_or}
 use Rattle.count.proofs.Logic.{true_not_false}
-use Rattle.answers.proofs.Steps.{answered_none}
-use Rattle.answers.proofs.Passing.{declines, goes_on}
+use Rattle.answers.proofs.Steps.{Passed, answered_none}
+use Rattle.answers.proofs.Passing.{declines, declines_first, goes_on, refuses}
+use Rattle.answers.proofs.Passing as first
+use Rattle.answers.specs.Checks.{check_at}
 use Rattle.answers.specs.Answer.{Answer, answer, refused_with}
 use Rattle.answers.specs.declared.given.Size.{Size}
 use Rattle.words.specs.Brackets.{balanced}
@@ -31,7 +34,7 @@ use Rattle.words.specs.declared.family.Family.TheVariants.{Round as round, Squar
 use Rattle.bits.specs.Strings.{rank, brackets, unused_zero}
 use Rattle.format.specs.Bytes.{header, areas_of, size_in, written_areas, bits_a, bits_b, map_length, part_a, part_b}
 use Rattle.format.specs.Open.{size_fits, areas_fit, length_fits, unused_fits, ones_fit, brackets_fit, open_checks, open_refusal, open_of, Opens}
-use Rattle.opening.specs.Checks.{open_check}
+use Rattle.opening.specs.Checks.{header_checks, string_checks, header_check, open_check}
 
 -- a test r that was computed, and the test t that it computes
 module _ (r t : Bool) (e : r ≡ t) where
@@ -119,6 +122,21 @@ module _ (s : List ℕ) where
   pub brackets_left : (b c : Bool) → b ≡ nests round → b ≡ true → c ≡ nests square → c ≡ brackets_fit s
   unfolding brackets_fit
   brackets_left b c p h q = rw (← p, h, ← q)
+
+  -- ---- the checks of the header, then those of the strings
+  pub header_refuses : (k : ℕ) (xs : List ℕ) → refused_with k xs ≡ header_check s → refused_with k xs ≡ open_check s
+  unfolding header_check open_check
+  header_refuses k xs e = declines_first (header_checks s) (string_checks s) (answer (tt {0})) k xs e
+
+  module _ (e : answer (tt {0}) ≡ header_check s) where
+    pub strings_refuse : (i : ℕ) → Passed (string_checks s) i → (check_at (string_checks s) i).test ≡ false
+        → refused_with (check_at (string_checks s) i).number (check_at (string_checks s) i).carries ≡ open_check s
+    unfolding header_check open_check
+    strings_refuse i p f = refuses (header_checks s) (string_checks s) e (answer (tt {0})) i p f
+
+    pub strings_pass : Passed (string_checks s) 3 → answer (tt {0}) ≡ open_check s
+    unfolding header_check open_check
+    strings_pass p = first.passes (header_checks s) (string_checks s) e (answer (tt {0})) p
 
   -- ---- opening
   pub opens_size : (m n : ℕ) → answer (tt {0}) ≡ open_check s → m ≡ (size_in s).m → n ≡ (size_in s).n → ◌≡◌ {A = Answer Size} (answer (record { m = m; n = n })) (open_of s)

@@ -16,8 +16,8 @@ use layout::{areas, bits_a, points};
 pub fn check_place(map: &[u8], place: Place) -> Result<(), Refusal>
     ensures { checks_mean result ≡ place_check map.now place.0 }
 {
-    check(map)?;
     let at = place.0;
+    check(map)?;
     if at == 0 {
         return Err(Refusal::NoPlace);
     }

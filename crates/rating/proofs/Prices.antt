@@ -14,10 +14,10 @@ use lib.Ieee.{Float}
 use borrow.Author.Tests.{lt-ltb, le-ltb}
 use Rattle.count.specs.Below.{pick}
 use Rattle.count.proofs.Logic.{pick_yes, pick_no}
-use Rattle.answers.specs.Answer.{Answer, answer, refused, Kind}
+use Rattle.answers.specs.Answer.{Answer, answer, refused_with, refused, Kind}
 use Rattle.format.specs.Bytes.{size_in, word_in}
 use Rattle.format.specs.Calls.{cells_in, landings_in}
-use Rattle.opening.specs.Checks.{cell_refusal}
+use Rattle.opening.specs.Checks.{cell_check}
 use Rattle.opening.proofs.Passed.{cell_passes, cell_declines, cell_answers}
 use Rattle.tariff.specs.declared.factor.Factor.{Factor}
 use Rattle.tariff.specs.declared.factor.Running.{Running}
@@ -43,21 +43,21 @@ module _ (r across : Running) (e : r ≡ across) where
       ∙ ap (priced Factor.Unknown) e
 
 -- ---- the call
-module _ (s kinds : List ℕ) (values : List Float) (k o : ℕ) (e : o ≡ cell_refusal s Kind.area k) where
+module _ (s kinds : List ℕ) (values : List Float) (k : ℕ) where
   abbrev Answered : Answer Float
   Answered = factor_of s k kinds values
 
   abbrev areas_of : ℕ
   areas_of = cells_in (size_in s) Kind.area
 
-  pub factor_declines : (o ≡ 0 → ⊥) → refused o ≡ Answered
+  pub factor_declines : (o : ℕ) (xs : List ℕ) → refused_with o xs ≡ cell_check s Kind.area k → refused_with o xs ≡ Answered
   unfolding factor_of factor_in rated
-  factor_declines d = cell_declines s Kind.area k o e (rated areas_of kinds values k (landings_in (word_in s) k)) d
+  factor_declines o xs e = cell_declines s Kind.area k (rated areas_of kinds values k (landings_in (word_in s) k)) o xs e
 
-  module _ (z : o ≡ 0) (v : ℕ) (hv : v ≡ (size_in s).m + 2 - (size_in s).n) (t : Bool) (ht : t ≡ tariff_fits v kinds values) where
+  module _ (e : answer (tt {0}) ≡ cell_check s Kind.area k) (v : ℕ) (hv : v ≡ (size_in s).m + 2 - (size_in s).n) (t : Bool) (ht : t ≡ tariff_fits v kinds values) where
     after_area : rated areas_of kinds values k (landings_in (word_in s) k) ≡ Answered
     unfolding factor_of factor_in rated
-    after_area = cell_answers s Kind.area k o e (rated areas_of kinds values k (landings_in (word_in s) k)) z
+    after_area = cell_answers s Kind.area k e (rated areas_of kinds values k (landings_in (word_in s) k))
 
     fit_test : tariff_fits areas_of kinds values ≡ t
     fit_test = sym (ht ∙ ap (λ x. tariff_fits x kinds values) hv)
@@ -73,7 +73,7 @@ module _ (s kinds : List ℕ) (values : List Float) (k o : ℕ) (e : o ≡ cell_
 
       pub entry_lent : InLists kinds values k
       entry_lent =
-          let p = cell_passes s Kind.area k o e z in
+          let p = cell_passes s Kind.area k e in
           record {
             least = p.1;
             kind = omega (arith, p.2, lists_lent.bytes);

@@ -12,39 +12,36 @@ ghost use Rattle.tariff.specs.Maps.{factor_of};
 ghost use Rattle.rating.specs.Summed.{priced};
 
 use crate::sides::sum_across;
-use answers::{Area, FactorAnswer};
+use answers::{Area, Refusal};
 use layout::areas;
-use opening::{Cell, cell_refusal};
+use opening::{Cell, check_cell};
 use pricing::{factor_in, hold, lists_fit, mean_of};
 use tariff::Factor;
 
 // The factor of an area: opening's checks, 15, 18, 19, or the number.
-pub fn factor(map: &[u8], area: Area, kinds: &[u8], values: &[f64]) -> FactorAnswer
+pub fn factor(map: &[u8], area: Area, kinds: &[u8], values: &[f64]) -> Result<f64, Refusal>
     ensures { factor_means result ≡ factor_of map.now area.0 kinds.now values.now }
 {
-    let k = cell_refusal(map, Cell::Area(area));
-    if k != 0 {
-        return FactorAnswer::Declined(k);
-    }
+    check_cell(map, Cell::Area(area))?;
     if !lists_fit(kinds, values, areas(map)) {
-        return FactorAnswer::Declined(18);
+        return Err(Refusal::Tariff);
     }
     match factor_in(kinds, values, area) {
-        Factor::Own(x) => FactorAnswer::Is(x),
-        Factor::Held(x, low, high) => FactorAnswer::Is(hold(x, low, high)),
+        Factor::Own(x) => Ok(x),
+        Factor::Held(x, low, high) => Ok(hold(x, low, high)),
         Factor::Unknown => mean_across(map, area, kinds, values),
     }
 }
 
 // The mean across the sides of an area whose factor is not known; 19 where no known one is across.
-fn mean_across(map: &[u8], area: Area, kinds: &[u8], values: &[f64]) -> FactorAnswer
+fn mean_across(map: &[u8], area: Area, kinds: &[u8], values: &[f64]) -> Result<f64, Refusal>
     requires { Numbered map.now (Cell.Area area) × TariffFits (cells_in (size_in map.now) Kind.area) kinds.now values.now }
     ensures { factor_means result ≡ priced Factor.Unknown
         (sum_across kinds.now values.now (landings_in (word_in map.now) area.0)) }
 {
     let running = sum_across(map, area, kinds, values);
     if running.count == 0 {
-        return FactorAnswer::Declined(19);
+        return Err(Refusal::NoFactor);
     }
-    FactorAnswer::Is(mean_of(running))
+    Ok(mean_of(running))
 }

@@ -4,8 +4,8 @@ use Rattle.map.proofs.Cells.{first_declines, first_none, first_some}
 use borrow.Author.Rules.{rules}
 use Rattle.map.proofs.numbers.first_of.Goals as goal
 
-pub returns-then-k-ne0 : goal.returns-then-k-ne0
-returns-then-k-ne0 c = search first_declines
+pub returns-in_err-check_cell : goal.returns-in_err-check_cell
+returns-in_err-check_cell c = search first_declines
 
 pub returns-then-bits_a-eq0 : goal.returns-then-bits_a-eq0
 returns-then-bits_a-eq0 c = search first_none

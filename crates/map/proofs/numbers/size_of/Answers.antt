@@ -3,8 +3,8 @@ use Rattle.walking.proofs.Checked.{cell_numbered}
 use Rattle.map.proofs.Cells.{size_declines, size_answers}
 use Rattle.map.proofs.numbers.size_of.Goals as goal
 
-pub returns-then-k-ne0 : goal.returns-then-k-ne0
-returns-then-k-ne0 c = search size_declines
+pub returns-in_err-check_cell : goal.returns-in_err-check_cell
+returns-in_err-check_cell c = search size_declines
 
 pub size_at-requires : goal.size_at-requires
 size_at-requires c = search cell_numbered

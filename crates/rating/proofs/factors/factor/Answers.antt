@@ -3,8 +3,8 @@ use Rattle.walking.proofs.Checked.{cell_numbered}
 use Rattle.rating.proofs.Prices.{factor_declines, factor_lists, lists_lent, entry_lent, factor_own, factor_held, factor_unknown}
 use Rattle.rating.proofs.factors.factor.Goals as goal
 
-pub returns-then-k-ne0 : goal.returns-then-k-ne0
-returns-then-k-ne0 c = search factor_declines
+pub returns-in_err-check_cell : goal.returns-in_err-check_cell
+returns-in_err-check_cell c = search factor_declines
 
 pub returns-then-not-lists_fit : goal.returns-then-not-lists_fit
 returns-then-not-lists_fit c = search factor_lists
