@@ -32,8 +32,8 @@ use Rattle.format.proofs.Small.{move_small}
 use Rattle.format.specs.Sessions.{call_of, gone_round_bit, entry_of}
 use Rattle.format.proofs.Places.{at_place_lem, at_none, call_opens}
 use Rattle.walking.specs.Positions.{Position}
-use Rattle.walking.specs.Turns.{turn_reply}
-use Rattle.walking.specs.declared.turning.Turn.{Turn}
+use Rattle.answers.specs.Means.{turn_reply}
+use Rattle.answers.specs.declared.given.Turn.{Turn}
 use Rattle.walking.proofs.Decoded.{places_most}
 use Rattle.calling.specs.Lists.{Surveyed}
 use Rattle.calling.specs.Told.{found_reply, place_from, Finds, Gives}

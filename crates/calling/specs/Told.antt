@@ -11,7 +11,7 @@ use Rattle.words.specs.Word.{Word}
 use Rattle.drawing.specs.Session.{Call, place_after}
 use Rattle.format.specs.Calls.{reply_in}
 use Rattle.format.specs.Sessions.{gone_round_bit, entry_of}
-use Rattle.walking.specs.Turns.{turn_reply}
+use Rattle.answers.specs.Means.{turn_reply}
 use Rattle.calling.specs.declared.calls.Found.{Found}
 use Rattle.calling.specs.declared.calls.Told.{Told}
 

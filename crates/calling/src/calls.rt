@@ -4,15 +4,15 @@ ghost use Rattle.format.specs.Bytes.{word_in};
 ghost use Rattle.format.specs.Calls.{map_answer};
 ghost use Rattle.format.specs.Sessions.{call_of, gone_round_bit, entry_of};
 ghost use Rattle.walking.specs.Positions.{Position};
-ghost use Rattle.walking.specs.Turns.{turn_reply};
+ghost use Rattle.answers.specs.Means.{turn_reply};
 ghost use Rattle.calling.specs.Lists.{Surveyed};
 ghost use Rattle.calling.specs.Told.{found_reply, place_from, Finds, Gives};
 
 use crate::codes::{ALONG, CROSS, POINT, TURN, TURN_BACK};
-use answers::{Area, Place, Point};
+use answers::{Area, Place, Point, Turn};
 use layout::bits_a;
 use surveying::{area_in, back_in, own_mate_in, point_in, step_in};
-use walking::{Turn, turn_back_to, turn_to};
+use walking::{turn_back_to, turn_to};
 use words::Family;
 
 // What the sign adds to a place in the list of answers: bit 15.

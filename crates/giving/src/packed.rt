@@ -4,21 +4,22 @@ ghost use Rattle.answers.specs.Means.{packed_means};
 ghost use Rattle.answers.specs.Lent.{leaves, itself};
 ghost use Rattle.giving.specs.Desk.{returned, Small};
 
-use answers::Packed;
+use answers::Refusal;
 
 // The length goes to the slot, and what is returned is the status with what 7 carries.
-pub fn give_length(p: Packed, length: &mut u16) -> u32
+#[tactic(auto, unfolding(answers::specs::Answer::number_of, answers::specs::Answer::value_of, answers::specs::Lent::leaves))]
+pub fn give_length(p: Result<usize, Refusal>, length: &mut u16) -> u32
     requires { Small p }
     ensures value { result ≡ returned p }
     ensures length_after { length.new ≡ leaves itself (packed_means p) length.old }
 {
     match p {
-        Packed::Length(l) => {
+        Ok(l) => {
             *length = l as u16;
             0
         }
-        Packed::Crossing(a, b) => seven(a, b),
-        Packed::Declined(k) => k as u32,
+        Err(Refusal::Crossing(a, b)) => seven(a, b),
+        Err(e) => u32::from(u8::from(e)),
     }
 }
 

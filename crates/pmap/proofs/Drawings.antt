@@ -24,8 +24,9 @@ use Rattle.count.proofs.Logic.{true_or_false}
 use Rattle.answers.specs.Checks.{check}
 use Rattle.answers.proofs.Steps.{stops_at, number_after, by_numbers, none_append, by_checks, answered_all, told_answered}
 use Rattle.answers.specs.Answer.{Answer, answer, refused_with, refused, number_of, carried_by, value_of, told}
-use Rattle.answers.specs.declared.cases.Packed.{Packed}
-use Rattle.answers.specs.Means.{packed_means}
+use Rattle.std.specs.Prelude.{Result, Ok, Err}
+use Rattle.answers.specs.declared.refusal.Refusal.{Refusal}
+use Rattle.answers.specs.Means.{number, packed_means}
 use Rattle.answers.specs.Lent.{leaves, itself}
 use Rattle.words.specs.declared.family.Family.{Family}
 use Rattle.words.specs.declared.family.Family.TheVariants.{Round as round, Square as square}
@@ -148,20 +149,20 @@ module _ (D : Drawing) (w o : ℕ) where
       let lb = X.crossing.second_border in
       (omega (arith, fit.half, fit.most), omega (arith, fit.half, fit.most))
 
-  small : (p : Packed) → packed_means p ≡ told length (pack_of D w o) → Small p
-  small (Packed.Length l) e = length_small l e
-  small (Packed.Crossing a b) e = pair_small a b e
-  small (Packed.Declined k) e = tt
+  small : (p : Result ℕ Refusal) → packed_means p ≡ told length (pack_of D w o) → Small p
+  small (Ok l) e = length_small l e
+  small (Err (Refusal.Crossing a b)) e = pair_small a b e
+  small (Err k) e = tt
 
-  returned_read : (p : Packed) → packed_means p ≡ told length (pack_of D w o) → (r : ℕ) → r ≡ returned p → Read r (packed_means p)
+  returned_read : (p : Result ℕ Refusal) → packed_means p ≡ told length (pack_of D w o) → (r : ℕ) → r ≡ returned p → Read r (packed_means p)
   unfolding number_of carried_by
-  returned_read (Packed.Length x) e r h = record { low = omega arith; smaller = omega arith; larger = omega arith }
-  returned_read (Packed.Crossing a b) e r h = let s = pair_small a b e in read_pair a b r h s.0 s.1
-  returned_read (Packed.Declined k) e r h =
-      let n = pack_number (refused k) e in
-      rw h (read_bare k (omega (arith, number_most)))
+  returned_read (Ok x) e r h = record { low = omega arith; smaller = omega arith; larger = omega arith }
+  returned_read (Err (Refusal.Crossing a b)) e r h = let s = pair_small a b e in read_pair a b r h s.0 s.1
+  returned_read (Err k) e r h =
+      let n = pack_number (refused (number k)) e in
+      rw h (read_bare (number k) (omega (arith, number_most)))
 
-module _ (D : Drawing) (work work' out out' : List ℕ) (p : Packed) (P : Packs D work work' out out' (packed_means p)) where
+module _ (D : Drawing) (work work' out out' : List ℕ) (p : Result ℕ Refusal) (P : Packs D work work' out out' (packed_means p)) where
   pub pack_small : Small p
   pack_small = small D (length work) (length out) p P.answers
 

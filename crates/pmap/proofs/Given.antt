@@ -16,6 +16,7 @@ use Rattle.answers.specs.Lent.{leaves, itself}
 use Rattle.drawing.specs.Session.{Outcome}
 use Rattle.format.specs.Open.{open_of}
 use Rattle.format.proofs.Small.{cross_fits, turn_fits, turn_back_fits, along_fits, point_fits, area_fits, first_fits, size_fits_lem, neighbours_fit, joining_fits}
+use Rattle.giving.proofs.Slots.{place_slot, point_slot, area_slot, number_slot}
 use Rattle.pmap.proofs.Bounds.{open_small}
 
 module _ {A : Type 0} where
@@ -25,7 +26,7 @@ module _ {A : Type 0} where
   pub slot_same : (x old : A) (a b : Answer A) → x ≡ leaves itself a old → a ≡ b → x ≡ leaves itself b old
   slot_same x old a b h e = h ∙ ap (λ y. leaves itself y old) e
 
-pub ruleset fits_all = (cross_fits, turn_fits, turn_back_fits, along_fits, point_fits, area_fits, first_fits, size_fits_lem, neighbours_fit, joining_fits, rules)
+pub ruleset fits_all = (place_slot, point_slot, area_slot, number_slot, cross_fits, turn_fits, turn_back_fits, along_fits, point_fits, area_fits, first_fits, size_fits_lem, neighbours_fit, joining_fits, rules)
 
 -- ---- opening
 module _ (a b : Answer Size) (e : a ≡ b) where

@@ -6,7 +6,7 @@ ghost use Rattle.format.specs.Calls.{first_of, size_of, neighbours_of};
 ghost use Rattle.tariff.specs.Maps.{factor_of};
 
 use answers::Area;
-use giving::{give_count, give_factor, give_place};
+use giving::give;
 
 // The area's first place, or 0 if m = 0.
 #[tactic(auto, using(crate::proofs::Given::fits_all))]
@@ -15,7 +15,7 @@ pub extern "C" fn pmap_area_first(map: &[u8], area: usize, out: &mut u16) -> u8
     ensures value { result ≡ number_of (first_of map.now Kind.area area) }
     ensures out_after { out.new ≡ leaves itself (first_of map.now Kind.area area) out.old }
 {
-    give_place(map::area_first(map, Area(area)), out)
+    give(map::area_first(map, Area(area)), out)
 }
 
 // How many places the area has.
@@ -25,7 +25,7 @@ pub extern "C" fn pmap_sides(map: &[u8], area: usize, out: &mut u16) -> u8
     ensures value { result ≡ number_of (size_of map.now Kind.area area) }
     ensures out_after { out.new ≡ leaves itself (size_of map.now Kind.area area) out.old }
 {
-    give_count(map::sides(map, Area(area)), out)
+    give(map::sides(map, Area(area)), out)
 }
 
 // The area's neighbour count.
@@ -35,7 +35,7 @@ pub extern "C" fn pmap_neighbours(map: &[u8], area: usize, out: &mut u16) -> u8
     ensures value { result ≡ number_of (neighbours_of map.now area) }
     ensures out_after { out.new ≡ leaves itself (neighbours_of map.now area) out.old }
 {
-    give_count(map::neighbours(map, Area(area)), out)
+    give(map::neighbours(map, Area(area)), out)
 }
 
 // The area's factor, by the two lists.
@@ -51,5 +51,5 @@ pub extern "C" fn pmap_factor(
     ensures out_after { out.new
         ≡ leaves itself (factor_of map.now area kinds.now values.now) out.old }
 {
-    give_factor(rating::factor(map, Area(area), kinds, values), out)
+    give(rating::factor(map, Area(area), kinds, values), out)
 }

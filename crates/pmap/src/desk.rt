@@ -7,7 +7,7 @@ ghost use Rattle.format.specs.Pack.{unpack_of};
 ghost use Rattle.format.specs.Suggest.{Suggests};
 ghost use Rattle.format.specs.Packs.{PackReturns};
 
-use giving::{give_borders, give_length};
+use giving::{give, give_length};
 
 // Marks of a spanning tree go to `marks`.
 #[unsafe(no_mangle)]
@@ -49,5 +49,5 @@ pub extern "C" fn pmap_unpack(map: &[u8], turning: &mut [u16], marks: &mut [u8],
         ≡ leaves itself (told borders (unpack_of map.now (size turning.old) (size marks.old)))
         m.old }
 {
-    give_borders(unpacking::unpack(map, turning, marks), m)
+    give(unpacking::unpack(map, turning, marks), m)
 }

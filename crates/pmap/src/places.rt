@@ -5,7 +5,7 @@ ghost use Rattle.answers.specs.Lent.{leaves, itself};
 ghost use Rattle.format.specs.Calls.{cross_of, turn_of, turn_back_of, along_of, point_of, area_of};
 
 use answers::Place;
-use giving::{give_area, give_place, give_point, give_turn};
+use giving::{give, give_turn};
 
 // The place of the other end.
 #[tactic(auto, using(crate::proofs::Given::fits_all))]
@@ -14,7 +14,7 @@ pub extern "C" fn pmap_cross(map: &[u8], place: usize, out: &mut u16) -> u8
     ensures value { result ≡ number_of (cross_of map.now place) }
     ensures out_after { out.new ≡ leaves itself (cross_of map.now place) out.old }
 {
-    give_place(map::cross(map, Place(place)), out)
+    give(map::cross(map, Place(place)), out)
 }
 
 // The next place about the point; after the last the first, and then it has gone round.
@@ -46,7 +46,7 @@ pub extern "C" fn pmap_along(map: &[u8], place: usize, out: &mut u16) -> u8
     ensures value { result ≡ number_of (along_of map.now place) }
     ensures out_after { out.new ≡ leaves itself (along_of map.now place) out.old }
 {
-    give_place(map::along(map, Place(place)), out)
+    give(map::along(map, Place(place)), out)
 }
 
 // The point of the place.
@@ -56,7 +56,7 @@ pub extern "C" fn pmap_point(map: &[u8], place: usize, out: &mut u16) -> u8
     ensures value { result ≡ number_of (point_of map.now place) }
     ensures out_after { out.new ≡ leaves itself (point_of map.now place) out.old }
 {
-    give_point(map::point_at(map, Place(place)), out)
+    give(map::point_at(map, Place(place)), out)
 }
 
 // The area of the place.
@@ -66,5 +66,5 @@ pub extern "C" fn pmap_area(map: &[u8], place: usize, out: &mut u16) -> u8
     ensures value { result ≡ number_of (area_of map.now place) }
     ensures out_after { out.new ≡ leaves itself (area_of map.now place) out.old }
 {
-    give_area(map::area_at(map, Place(place)), out)
+    give(map::area_at(map, Place(place)), out)
 }

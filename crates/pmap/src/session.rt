@@ -6,7 +6,7 @@ ghost use Rattle.drawing.specs.Session.{Outcome};
 ghost use Rattle.format.specs.Sessions.{ran_of, statuses_of, values_of};
 
 use answers::Place;
-use giving::give_left;
+use giving::give;
 
 // The status and the answer of each call go to the two lists, the place left at the end to a slot.
 #[unsafe(no_mangle)]
@@ -30,7 +30,7 @@ pub extern "C" fn pmap_session(
         (told (λ (o : Outcome). o.place) (ran_of map.now first calls.now (size statuses.old) (size answers.old)))
         place.old }
 {
-    give_left(
+    give(
         sessions::session(map, Place(first), calls, statuses, answers),
         place,
     )

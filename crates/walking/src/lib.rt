@@ -27,7 +27,7 @@
 mod turning;
 mod word;
 
-pub use turning::{Turn, turn_back_to, turn_to};
+pub use turning::{turn_back_to, turn_to};
 pub use word::{
     after, area_of, back_at, before, family_at, first_at, mate_at, number_at, own_mate_at,
     point_of, step_at, step_past,

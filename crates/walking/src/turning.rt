@@ -1,6 +1,7 @@
 // Turn and turn back, from the position that a step leads to, wherever that was found. Round means beyond the point's last place,
 // or back beyond its first.
 ghost use Rattle.std.specs.Prelude.{◌≡◌};
+ghost use Rattle.answers.specs.Means.{turn_reply};
 ghost use Rattle.words.specs.Brackets.{step, back};
 ghost use Rattle.words.specs.declared.family.Family.TheVariants.{Round as round};
 ghost use Rattle.words.specs.Word.{seen};
@@ -8,16 +9,8 @@ ghost use Rattle.drawing.specs.Session.{Call};
 ghost use Rattle.format.specs.Bytes.{size_in, bits_a, word_in};
 ghost use Rattle.format.specs.Calls.{reply_in};
 ghost use Rattle.walking.specs.Positions.{Position};
-ghost use Rattle.walking.specs.Turns.{turn_reply};
 
-use answers::Place;
-
-// Where a turn leads, and whether it has gone round.
-#[derive(Clone, Copy)]
-pub struct Turn {
-    pub place: Place,
-    pub round: bool,
-}
+use answers::{Place, Turn};
 
 // Turn at p: r is the next position about the point, and higher than p unless p is the last.
 pub fn turn_to(map: &[u8], p: usize, r: usize) -> Turn

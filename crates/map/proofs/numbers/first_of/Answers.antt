@@ -1,17 +1,22 @@
 -- `map::numbers::first_of` meets its contract. Assumes nothing.
+use mathlib.Core.Path.{◌≡◌}
+use Rattle.answers.specs.Answer.{answer}
+use Rattle.answers.proofs.Passing.{passed_up}
+use Rattle.opening.specs.Checks.{cell_check}
+use Rattle.opening.specs.Cells.{kind_of, number_of_cell}
 use Rattle.walking.proofs.Checked.{cell_numbered}
 use Rattle.map.proofs.Cells.{first_declines, first_none, first_some}
 use borrow.Author.Rules.{rules}
 use Rattle.map.proofs.numbers.first_of.Goals as goal
 
 pub returns-in_err-check_cell : goal.returns-in_err-check_cell
-returns-in_err-check_cell c = search first_declines
+returns-in_err-check_cell c = passed_up _ _ _ _ c.from_residual.ensures.1 (first_declines _ _ _ _ _ c.in_err-check_cell.ensures)
 
 pub returns-then-bits_a-eq0 : goal.returns-then-bits_a-eq0
-returns-then-bits_a-eq0 c = search first_none
+returns-then-bits_a-eq0 c = let h : answer (tt {0}) ≡ cell_check c.args.map.now (kind_of c.args.cell) (number_of_cell c.args.cell) = c.in_ok-check_cell.ensures in search first_none
 
 pub first_at-requires : goal.first_at-requires
-first_at-requires c = search (cell_numbered, rules)
+first_at-requires c = let h : answer (tt {0}) ≡ cell_check c.args.map.now (kind_of c.args.cell) (number_of_cell c.args.cell) = c.in_ok-check_cell.ensures in search (cell_numbered, rules)
 
 pub returns : goal.returns
-returns c = search first_some
+returns c = let h : answer (tt {0}) ≡ cell_check c.args.map.now (kind_of c.args.cell) (number_of_cell c.args.cell) = c.in_ok-check_cell.ensures in search first_some

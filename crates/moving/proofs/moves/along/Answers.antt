@@ -1,4 +1,9 @@
 -- `moving::moves::along` meets its contract. Assumes nothing.
+use mathlib.Core.Path.{◌≡◌}
+use Rattle.answers.specs.Answer.{answer}
+use Rattle.answers.proofs.Passing.{passed_up}
+use Rattle.opening.specs.Checks.{place_check}
+use Rattle.drawing.specs.Session.{Call}
 use Rattle.format.specs.Calls.{along_of}
 use Rattle.opening.proofs.Passed.{place_least}
 use Rattle.walking.proofs.Checked.{place_position}
@@ -7,14 +12,14 @@ use Rattle.moving.proofs.moves.along.Goals as goal
 
 pub returns-in_err-check_place : goal.returns-in_err-check_place
 unfolding along_of
-returns-in_err-check_place c = search move_declines
+returns-in_err-check_place c = passed_up _ _ _ _ c.from_residual.ensures.1 (move_declines _ _ Call.along _ _ c.in_err-check_place.ensures)
 
 pub overflow_sub-place : goal.overflow_sub-place
-overflow_sub-place c = search place_least
+overflow_sub-place c = let h : answer (tt {0}) ≡ place_check c.args.map.now c.args.place.0 = c.in_ok-check_place.ensures in search place_least
 
 pub step_at-ahead-requires : goal.step_at-ahead-requires
-step_at-ahead-requires c = search place_position
+step_at-ahead-requires c = let h : answer (tt {0}) ≡ place_check c.args.map.now c.args.place.0 = c.in_ok-check_place.ensures in search place_position
 
 pub returns : goal.returns
 unfolding along_of
-returns c = search along_answers
+returns c = let h : answer (tt {0}) ≡ place_check c.args.map.now c.args.place.0 = c.in_ok-check_place.ensures in search along_answers

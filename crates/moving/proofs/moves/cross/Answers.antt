@@ -1,4 +1,9 @@
 -- `moving::moves::cross` meets its contract. Assumes nothing.
+use mathlib.Core.Path.{◌≡◌}
+use Rattle.answers.specs.Answer.{answer}
+use Rattle.answers.proofs.Passing.{passed_up}
+use Rattle.opening.specs.Checks.{place_check}
+use Rattle.drawing.specs.Session.{Call}
 use Rattle.format.specs.Calls.{cross_of}
 use Rattle.opening.proofs.Passed.{place_least}
 use Rattle.walking.proofs.Checked.{place_position}
@@ -7,14 +12,14 @@ use Rattle.moving.proofs.moves.cross.Goals as goal
 
 pub returns-in_err-check_place : goal.returns-in_err-check_place
 unfolding cross_of
-returns-in_err-check_place c = search move_declines
+returns-in_err-check_place c = passed_up _ _ _ _ c.from_residual.ensures.1 (move_declines _ _ Call.cross _ _ c.in_err-check_place.ensures)
 
 pub overflow_sub-place : goal.overflow_sub-place
-overflow_sub-place c = search place_least
+overflow_sub-place c = let h : answer (tt {0}) ≡ place_check c.args.map.now c.args.place.0 = c.in_ok-check_place.ensures in search place_least
 
 pub own_mate_at-other-requires : goal.own_mate_at-other-requires
-own_mate_at-other-requires c = search place_position
+own_mate_at-other-requires c = let h : answer (tt {0}) ≡ place_check c.args.map.now c.args.place.0 = c.in_ok-check_place.ensures in search place_position
 
 pub returns : goal.returns
 unfolding cross_of
-returns c = search cross_answers
+returns c = let h : answer (tt {0}) ≡ place_check c.args.map.now c.args.place.0 = c.in_ok-check_place.ensures in search cross_answers

@@ -1,4 +1,9 @@
 -- `moving::numbers::point_at` meets its contract. Assumes nothing.
+use mathlib.Core.Path.{◌≡◌}
+use Rattle.answers.specs.Answer.{answer}
+use Rattle.answers.proofs.Passing.{passed_up}
+use Rattle.opening.specs.Checks.{place_check}
+use Rattle.drawing.specs.Session.{Call}
 use Rattle.format.specs.Calls.{point_of}
 use Rattle.opening.proofs.Passed.{place_least}
 use Rattle.walking.proofs.Checked.{place_position}
@@ -7,14 +12,14 @@ use Rattle.moving.proofs.numbers.point_at.Goals as goal
 
 pub returns-in_err-check_place : goal.returns-in_err-check_place
 unfolding point_of
-returns-in_err-check_place c = search move_declines
+returns-in_err-check_place c = passed_up _ _ _ _ c.from_residual.ensures.1 (move_declines _ _ Call.point _ _ c.in_err-check_place.ensures)
 
 pub overflow_sub-place : goal.overflow_sub-place
-overflow_sub-place c = search place_least
+overflow_sub-place c = let h : answer (tt {0}) ≡ place_check c.args.map.now c.args.place.0 = c.in_ok-check_place.ensures in search place_least
 
 pub point_of-requires : goal.point_of-requires
-point_of-requires c = search place_position
+point_of-requires c = let h : answer (tt {0}) ≡ place_check c.args.map.now c.args.place.0 = c.in_ok-check_place.ensures in search place_position
 
 pub returns : goal.returns
 unfolding point_of
-returns c = search point_answers
+returns c = let h : answer (tt {0}) ≡ place_check c.args.map.now c.args.place.0 = c.in_ok-check_place.ensures in search point_answers
