@@ -1,11 +1,21 @@
 -- A list that is lent to be worked in: its first entries 0, and which of its entries a function may change.
 --
+-- cleared_to z k l    == the list l with its first k entries z; all of them where it has fewer
+-- cleared_zero        == cleared (answers, specs/Lent) is cleared_to 0
 -- Blank k work        == the list has at least k entries, and its first k are 0
 -- Kept k old new      == the lists are equally long, and equal from entry k on
 -- Outside a e old new == the lists are equally long, and equal but for the entries from a up to e
 -- Zeroed a e old new  == new is old with 0 for the entries from a up to e
 -- Assumes nothing.
-use Rattle.std.specs.Prelude.{◌≡◌, List, ℕ, ◌<◌, ◌≤◌, length, get_or}
+use Rattle.std.specs.Prelude.{◌≡◌, List, ℕ, ◌++◌, ◌<◌, ◌≤◌, min, length, drop, replicate, get_or, refl}
+use Rattle.answers.specs.Lent.{cleared}
+
+abbrev pub cleared_to : {A : Type 0} → A → ℕ → List A → List A
+cleared_to z k l = replicate (min k (length l)) z ++ drop k l
+
+pub cleared_zero : (k : ℕ) (l : List ℕ) → cleared k l ≡ cleared_to 0 k l
+unfolding cleared
+cleared_zero k l = refl
 
 pub record Blank (k : ℕ) (work : List ℕ) : Type 0 where
   pub room : k ≤ length work

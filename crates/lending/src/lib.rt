@@ -1,17 +1,13 @@
-// Memory that a caller lends: lists of 16-bit numbers and of bytes, and the numbers that index them.
+// Memory that a caller lends: lists of 16-bit numbers and of bytes.
 //
-//     clear   makes the first k entries of a list of 16-bit numbers 0
-//     zero    makes the first k bytes 0
-//     least   the lesser of two numbers
-//     wide    a 16-bit number as an index
+//     Zero    a kind of number whose lists can be cleared: u16 and u8
+//     clear   makes the first k entries of a list 0
 //
 // Conventions. No function asks anything of its caller: each states its answer, and what the memory lent holds after it, for
-// every input. The definitions that the contracts cite are those of the crate `answers`, specs/Lent; proofs/ has the laws for those
-// who fill a list.
+// every input. For numbers of both kinds that is `cleared` of the crate `answers`, specs/Lent; proofs/ has the laws for those who
+// fill a list.
 #![tactic(auto)]
 
 mod lists;
-mod numbers;
 
-pub use lists::{clear, zero};
-pub use numbers::{least, wide};
+pub use lists::{Zero, clear};
