@@ -5,9 +5,11 @@
 -- Mates s l     == what l has for a position is its mate
 -- Numbers K s l == what l has for a position is the number of its point (area)
 -- Surveyed s ms rs ps == s opens, and what the lists have for a position is its mate, its area, its point
--- Early n most x r == r answers x, or says by a number beyond n that more than `most` of n places would have to be looked at
+-- Early n most x r == r answers x, or is None where more than `most` of n places would have to be looked at
 -- Assumes nothing.
-use Rattle.std.specs.Prelude.{◌≡◌, List, ℕ, ◌<◌, ◌≤◌, length, get_or}
+use Rattle.std.specs.Prelude.{◌≡◌, List, ℕ, ◌<◌, ◌≤◌, length, get_or, IsSome}
+use Rattle.std.specs.declared.option.Option.{Option}
+use Rattle.std.specs.declared.option.Option.TheVariants.{Some}
 use Rattle.count.specs.Below.{table}
 use Rattle.words.specs.Brackets.{number}
 use Rattle.words.specs.declared.family.Family.{Family}
@@ -39,6 +41,6 @@ pub record Surveyed (s ms rs ps : List ℕ) : Type 0 where
   pub areas : Numbers square s rs
   pub points : Numbers round s ps
 
-pub record Early (n most x r : ℕ) : Type 0 where
-  pub is : r ≤ n → r ≡ x
-  pub enough : n ≤ most → r ≤ n
+pub record Early (n most x : ℕ) (r : Option ℕ) : Type 0 where
+  pub is : (y : ℕ) → r ≡ Some y → y ≡ x
+  pub enough : n ≤ most → IsSome r
