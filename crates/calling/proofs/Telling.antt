@@ -35,7 +35,7 @@ use Rattle.walking.specs.Positions.{Position}
 use Rattle.answers.specs.Means.{turn_reply}
 use Rattle.answers.specs.declared.given.Turn.{Turn}
 use Rattle.walking.proofs.Decoded.{places_most}
-use Rattle.calling.specs.Lists.{Surveyed}
+use Rattle.surveying.specs.Surveyed.{Surveyed}
 use Rattle.calling.specs.Told.{found_reply, place_from, Finds, Gives}
 use Rattle.calling.specs.declared.calls.Found.{Found}
 use Rattle.calling.specs.declared.calls.Told.{Told}

@@ -1,3 +1,2 @@
--- One call of a session: the lists of a map that it looks up in, and what it gives.
-pub mod Lists
+-- One call of a session: what it finds and gives.
 pub mod Told

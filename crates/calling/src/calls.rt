@@ -5,13 +5,12 @@ ghost use Rattle.format.specs.Calls.{map_answer};
 ghost use Rattle.format.specs.Sessions.{call_of, gone_round_bit, entry_of};
 ghost use Rattle.walking.specs.Positions.{Position};
 ghost use Rattle.answers.specs.Means.{turn_reply};
-ghost use Rattle.calling.specs.Lists.{Surveyed};
 ghost use Rattle.calling.specs.Told.{found_reply, place_from, Finds, Gives};
 
 use crate::codes::{ALONG, CROSS, POINT, TURN, TURN_BACK};
 use answers::{Area, Place, Point, Turn};
 use layout::bits_a;
-use surveying::{area_in, back_in, own_mate_in, point_in, step_in};
+use surveying::Survey;
 use walking::{turn_back_to, turn_to};
 use words::Family;
 
@@ -36,25 +35,17 @@ pub struct Told {
 }
 
 // One call at a place. 13: "place not 1 to 2m"; then "the place stays".
-pub fn tell(
-    map: &[u8],
-    mates: &[u16],
-    areas: &[u16],
-    points: &[u16],
-    code: u8,
-    place: Place,
-) -> Told
-    requires { Surveyed map.now mates.now areas.now points.now }
-    ensures { Gives (call_of code) (map_answer map.now (call_of code) place.0) place.0 result }
+pub fn tell(survey: &Survey, code: u8, place: Place) -> Told
+    ensures { Gives (call_of code) (map_answer survey.now.map.now (call_of code) place.0) place.0 result }
 {
     let i = place.0;
     if i == 0 {
         return refused(place);
     }
-    if bits_a(map) < i {
+    if bits_a(survey.map) < i {
         return refused(place);
     }
-    let found = found_at(map, mates, areas, points, code, i - 1);
+    let found = found_at(survey, code, i - 1);
     answered(found, place)
 }
 
@@ -116,16 +107,16 @@ fn turn_entry(turn: Turn) -> usize
 }
 
 // What a call answers at position p.
-fn found_at(map: &[u8], mates: &[u16], areas: &[u16], points: &[u16], code: u8, p: usize) -> Found
-    requires { Surveyed map.now mates.now areas.now points.now × Position map.now p }
-    ensures { Finds (word_in map.now) (call_of code) p result }
+fn found_at(survey: &Survey, code: u8, p: usize) -> Found
+    requires { Position survey.now.map.now p }
+    ensures { Finds (word_in survey.now.map.now) (call_of code) p result }
 {
     match code {
-        CROSS => Found::To(Place(own_mate_in(map, mates, p) + 1)),
-        TURN => Found::Turned(turn_to(map, p, step_in(map, mates, Family::Round, p))),
-        TURN_BACK => Found::Turned(turn_back_to(map, p, back_in(map, mates, Family::Round, p))),
-        ALONG => Found::To(Place(step_in(map, mates, Family::Square, p) + 1)),
-        POINT => Found::About(point_in(map, points, p)),
-        _ => Found::On(area_in(map, areas, p)),
+        CROSS => Found::To(Place(survey.own_mate(p) + 1)),
+        TURN => Found::Turned(turn_to(survey.map, p, survey.step(Family::Round, p))),
+        TURN_BACK => Found::Turned(turn_back_to(survey.map, p, survey.back(Family::Round, p))),
+        ALONG => Found::To(Place(survey.step(Family::Square, p) + 1)),
+        POINT => Found::About(survey.point(p)),
+        _ => Found::On(survey.area(p)),
     }
 }

@@ -6,8 +6,8 @@
 //     CROSS, TURN, TURN_BACK, ALONG, POINT, AREA   the codes of the calls
 //
 // Conventions. A call is asked for by its code; every code above AREA asks for the area. The place is any number. It is looked up
-// in lists of the map, as the crate `surveying` fills them; where they are empty, by walking through the bytes. tell asks that the
-// bytes open and that the lists are those of the map: the crate `sessions`, which calls it, has checked.
+// in a Survey of the crate `surveying`, whose bytes open and whose lists are those of its map; where they are empty, by walking
+// through the bytes. tell asks nothing of its caller.
 //
 // The source is document 01, "The drawing's book" and "Moves". The definitions that the contract cites are those of the crate
 // `format`, specs/Calls and specs/Sessions, and specs/Told.antt.

@@ -3,13 +3,11 @@
 // One loop over the places writes them. The mates, the areas and the points of all places the crate `surveying` has found in one pass;
 // where the next unread bit of B and of B* stands, the running count of the marked places says.
 ghost use Rattle.std.specs.Prelude.{◌≡◌, [], ◌∷◌, ◌+◌, ◌*◌, ◌≤◌, length};
-ghost use Rattle.words.specs.declared.family.Family.TheVariants.{Round as round, Square as square};
 ghost use Rattle.drawing.specs.Drawing.{most_ends};
 ghost use Rattle.format.specs.Bytes.{size_in, bits_a, word_in};
 ghost use Rattle.format.specs.Open.{open_refusal};
 ghost use Rattle.text.specs.Running.{letter_from};
 ghost use Rattle.printing.specs.Writing.{Wrote};
-ghost use Rattle.surveying.specs.Surveyed.{Mates, Numbers};
 ghost use Rattle.text.specs.Listing.{kind, place_lines};
 ghost use Rattle.walking.specs.Positions.{Position};
 ghost use Rattle.listing.specs.Lines.{Says};
@@ -18,7 +16,7 @@ use crate::line::{Line, put_line};
 use answers::Place;
 use bits::bit;
 use layout::{bits_a, part_a, part_b};
-use surveying::{area_in, own_mate_in, point_in, survey};
+use surveying::{Lists, Survey};
 use words::Family;
 
 // The lines of all places, from byte `at` on. The byte after them.
@@ -26,37 +24,26 @@ pub fn put_lines(map: &[u8], out: &mut [u8], at: usize) -> usize
     requires { (open_refusal map.now ≡ 0) × (at + 22 * most_ends ≤ length out.old) }
     ensures { Wrote out.old at (place_lines (word_in map.now) 0 (bits_a (size_in map.now))) result out.new }
 {
-    let mut mates = [0u16; 4096];
-    let mut areas = [0u16; 4096];
-    let mut points = [0u16; 4096];
-    survey(map, &mut mates, &mut areas, &mut points);
-    put_surveyed(map, &mates, &areas, &points, out, at)
+    let mut lists = Lists::new();
+    put_surveyed(&lists.survey(map), out, at)
 }
 
-// The same, from lists of the map. `ones` is the running count: how many of the places before this one are marked.
-fn put_surveyed(
-    map: &[u8],
-    mates: &[u16; 4096],
-    areas: &[u16; 4096],
-    points: &[u16; 4096],
-    out: &mut [u8],
-    at: usize,
-) -> usize
-    requires map_value { (open_refusal map.now ≡ 0) × (at + 22 * most_ends ≤ length out.old) }
-    requires mates { Mates map.now mates.now × Numbers square map.now areas.now × Numbers round map.now points.now }
-    ensures { Wrote out.old at (place_lines (word_in map.now) 0 (bits_a (size_in map.now))) result out.new }
+// The same, looked up in the lists of a map. `ones` is the running count: how many of the places before this one are marked.
+fn put_surveyed(survey: &Survey, out: &mut [u8], at: usize) -> usize
+    requires { at + 22 * most_ends ≤ length out.old }
+    ensures { Wrote out.old at (place_lines (word_in survey.now.map.now) 0 (bits_a (size_in survey.now.map.now))) result out.new }
 {
-    let a = part_a(map);
-    let b = part_b(map, Family::Round);
-    let c = part_b(map, Family::Square);
-    let n = bits_a(map);
+    let a = part_a(survey.map);
+    let b = part_b(survey.map, Family::Round);
+    let c = part_b(survey.map, Family::Square);
+    let n = bits_a(survey.map);
     let mut p = 0;
     let mut ones = 0;
     let mut next = at;
     while p < n {
         let marked = bit(a, p);
         let bracket = kind_of(marked, bit(b, ones), bit(c, p - ones));
-        let line = line_at(map, mates, areas, points, p, bracket);
+        let line = line_at(survey, p, bracket);
         next = put_line(out, next, line);
         ones += marked;
         p += 1;
@@ -76,14 +63,13 @@ fn kind_of(marked: usize, b: usize, c: usize) -> u8
 }
 
 // What the line of position p says, whose kind is given.
-fn line_at(map: &[u8], mates: &[u16], areas: &[u16], points: &[u16], p: usize, bracket: u8) -> Line
-    requires position { Position map.now p × (kind ((word_in map.now).letter p) ≡ bracket ∷ []) }
-    requires mates { Mates map.now mates.now × Numbers square map.now areas.now × Numbers round map.now points.now }
-    ensures { Says map.now p result }
+fn line_at(survey: &Survey, p: usize, bracket: u8) -> Line
+    requires { Position survey.now.map.now p × (kind ((word_in survey.now.map.now).letter p) ≡ bracket ∷ []) }
+    ensures { Says survey.now.map.now p result }
 {
-    let mate = own_mate_in(map, mates, p) + 1;
-    let node = point_in(map, points, p);
-    let area = area_in(map, areas, p);
+    let mate = survey.own_mate(p) + 1;
+    let node = survey.point(p);
+    let area = survey.area(p);
     Line {
         place: Place(p + 1),
         bracket: bracket,

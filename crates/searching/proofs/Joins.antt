@@ -5,7 +5,7 @@
 -- joining_start, joining_on == from one place to the next in turning order
 -- joining_here    == the place where the crossing lands at v
 -- joining_back    == 0 after the point's last place
--- joining_more    == no place is answered where more are left than are looked at
+-- joining_more    == None is answered where more are left than are looked at
 -- join_empty, join_start, join_full == the search about u, from its first position
 -- Assumes nothing.
 use mathlib.Core.Path.{◌≡◌, refl, sym, ap, ◌∙◌}
@@ -14,6 +14,8 @@ use mathlib.Core.List.{List}
 use Prim.Native.Nat.{ℕ, zero, suc, ◌+◌, ◌-◌, ◌<◌, ◌≤◌}
 use native.Mathlib.Omega.{arith}
 use borrow.Author.Tests.{eq-eqb, ne_eqb}
+use Rattle.std.specs.declared.option.Option.TheVariants.{None, Some}
+use Rattle.std.proofs.lemmas.Option.{none-some, same_Some}
 use lib.Dec.{eqb}
 use Rattle.count.specs.Below.{count}
 use Rattle.count.proofs.Counts.{count_yes, count_no, count_none, count_before}
@@ -123,9 +125,9 @@ module _ (s : List ℕ) (v f most : ℕ) where
       }
 
   module _ (p left : ℕ) (J : Joining p left) where
-    pub joining_more : (n : ℕ) → n ≡ bits_a (size_in s) → left ≡ 0 → Early (bits_a (size_in s)) most (joined_from s v f) (n + 1)
-    joining_more n e z =
-        record { is = λ h. absurd (omega arith); enough = λ h. absurd (omega (arith, J.room h, J.at.below)) }
+    pub joining_more : left ≡ 0 → Early (bits_a (size_in s)) most (joined_from s v f) None
+    joining_more z =
+        record { is = λ y h. absurd (none-some y h); enough = λ h. absurd (omega (arith, J.room h, J.at.below)) }
 
     lands : (q x : ℕ) → q ≡ mate_in (word_in s) p → x ≡ number (seen round (word_in s)) q → number (seen round (word_in s)) (mate_in (word_in s) p) ≡ x
     lands q x C e = ap (number (seen round (word_in s))) (sym C) ∙ sym e
@@ -134,11 +136,11 @@ module _ (s : List ℕ) (v f most : ℕ) where
     unfolding rest_at
     some = left_some (seen round (word_in s)) (bits_a (size_in s)) f (nested s round J.at.opens) p J.at.below J.of
 
-    pub joining_here : (q x : ℕ) → q ≡ mate_in (word_in s) p → x ≡ number (seen round (word_in s)) q → x ≡ v → Early (bits_a (size_in s)) most (joined_from s v f) (p + 1)
+    pub joining_here : (q x : ℕ) → q ≡ mate_in (word_in s) p → x ≡ number (seen round (word_in s)) q → x ≡ v → Early (bits_a (size_in s)) most (joined_from s v f) (Some (p + 1))
     joining_here q x C e h =
         let t = eq-eqb (number (seen round (word_in s)) (mate_in (word_in s) p)) v (lands q x C e ∙ h) in
         let z : join_in (word_in s) v (rest_at p) p ≡ suc p = ap (λ y. join_in (word_in s) v y p) some ∙ join_yes (word_in s) v (rest_at p - 1) p t in
-        record { is = λ l. omega (arith, J.rest); enough = λ l. omega (arith, J.at.below) }
+        record { is = λ y l. omega (arith, J.rest, same_Some _ _ l); enough = λ l. refl }
 
     module _ (q x r : ℕ) (C : q ≡ mate_in (word_in s) p) (e : x ≡ number (seen round (word_in s)) q) (m : x ≡ v → ⊥)
         (h : r ≡ step (seen round (word_in s)) (bits_a (size_in s)) p) where
@@ -148,13 +150,13 @@ module _ (s : List ℕ) (v f most : ℕ) where
           let o = ne_eqb (number (seen round (word_in s)) (mate_in (word_in s) p)) v (λ y. m (sym (lands q x C e) ∙ y)) in
           sym (ap (λ y. join_in (word_in s) v y p) i ∙ join_no (word_in s) v k p o) ∙ J.rest
 
-      last : step (seen round (word_in s)) (bits_a (size_in s)) p ≤ p → Early (bits_a (size_in s)) most (joined_from s v f) 0
+      last : step (seen round (word_in s)) (bits_a (size_in s)) p ≤ p → Early (bits_a (size_in s)) most (joined_from s v f) (Some 0)
       unfolding rest_at
       last z =
           let i = left_last (seen round (word_in s)) (bits_a (size_in s)) f (nested s round J.at.opens) p J.at.below J.of z in
-          record { is = λ l. sym (join_zero (word_in s) v (step (seen round (word_in s)) (bits_a (size_in s)) p)) ∙ on 0 i; enough = λ l. omega arith }
+          record { is = λ y l. sym (same_Some _ _ l) ∙ sym (join_zero (word_in s) v (step (seen round (word_in s)) (bits_a (size_in s)) p)) ∙ on 0 i; enough = λ l. refl }
 
-      pub joining_back : r ≤ p → Early (bits_a (size_in s)) most (joined_from s v f) 0
+      pub joining_back : r ≤ p → Early (bits_a (size_in s)) most (joined_from s v f) (Some 0)
       joining_back z = last (omega arith)
 
       pub joining_on : (left ≡ 0 → ⊥) → p < r → Joining r (left - 1)

@@ -1,17 +1,16 @@
 // The search about a point for a border that joins it with another, in one loop in turning order.
 ghost use Rattle.std.specs.Prelude.{◌≡◌};
-ghost use Rattle.words.specs.declared.family.Family.TheVariants.{Round as round};
 ghost use Rattle.format.specs.Bytes.{size_in, bits_a};
 ghost use Rattle.opening.specs.declared.cells.Cell.{Cell};
 ghost use Rattle.walking.specs.Positions.{Numbered};
-ghost use Rattle.surveying.specs.Surveyed.{Mates, Numbers, Early};
+ghost use Rattle.surveying.specs.Surveyed.{Early};
 ghost use Rattle.searching.specs.Joined.{joined_in, joined_from, Start};
 
 use answers::Point;
 use layout::bits_a;
 use opening::Cell;
 use sizing::size_at;
-use surveying::{own_mate_in, point_in, survey};
+use surveying::{Lists, Survey};
 use walking::{first_at, step_past};
 use words::Family;
 
@@ -42,25 +41,19 @@ fn join_about(map: &[u8], v: Point, k: usize, f: usize) -> usize
     requires { Start map.now f }
     ensures { result ≡ joined_from map.now v.0 f }
 {
-    let none = [0u16; 0];
-    let n = bits_a(map);
-    let early = join_from(map, &none, &none, v, walked(n, k), f);
-    if early <= n {
-        return early;
+    match join_from(&Survey::empty(map), v, walked(bits_a(map), k), f) {
+        Some(early) => early,
+        None => join_surveyed(map, v, f),
     }
-    join_surveyed(map, v, n, f)
 }
 
-// The same, looked up in lists of the whole map of n places.
-fn join_surveyed(map: &[u8], v: Point, n: usize, f: usize) -> usize
-    requires { Start map.now f × (n ≡ bits_a (size_in map.now)) }
+// The same, looked up in lists of the whole map: no place is left out.
+fn join_surveyed(map: &[u8], v: Point, f: usize) -> usize
+    requires { Start map.now f }
     ensures { result ≡ joined_from map.now v.0 f }
 {
-    let mut mates = [0u16; 4096];
-    let mut areas = [0u16; 4096];
-    let mut points = [0u16; 4096];
-    survey(map, &mut mates, &mut areas, &mut points);
-    join_from(map, &mates, &points, v, n, f)
+    let mut lists = Lists::new();
+    join_from(&lists.survey(map), v, bits_a(map), f).unwrap()
 }
 
 // How many of k places are looked at by walking, in a map of n places: all, where a survey would take longer.
@@ -70,30 +63,29 @@ fn walked(n: usize, k: usize) -> usize {
 
 // The first place about a point, in turning order from its first position f on, whose crossing lands at v; 0 where none does.
 // Turning leads to higher positions until the point's last. Of more than `most` places the others are not looked at: where they
-// may be needed, a number that is no place is answered.
-fn join_from(map: &[u8], mates: &[u16], points: &[u16], v: Point, most: usize, f: usize) -> usize
-    requires { Start map.now f × Mates map.now mates.now × Numbers round map.now points.now }
-    ensures { Early (bits_a (size_in map.now)) most (joined_from map.now v.0 f) result }
+// may be needed, the answer is None. The loop is not a `for`, which yields no place.
+fn join_from(survey: &Survey, v: Point, most: usize, f: usize) -> Option<usize>
+    requires { Start survey.now.map.now f }
+    ensures { Early (bits_a (size_in survey.now.map.now)) most (joined_from survey.now.map.now v.0 f) result }
 {
-    let n = bits_a(map);
     let to = v.0;
     let mut p = f;
     let mut left = most;
     let found = loop {
         if left == 0 {
-            break n + 1;
+            return None;
         }
-        let q = own_mate_in(map, mates, p);
-        let at = point_in(map, points, q);
+        let q = survey.own_mate(p);
+        let at = survey.point(q);
         if at.0 == to {
             break p + 1;
         }
-        let r = step_past(map, Family::Round, p, q);
+        let r = step_past(survey.map, Family::Round, p, q);
         if r <= p {
             break 0;
         }
         p = r;
         left -= 1;
     };
-    found
+    Some(found)
 }

@@ -7,14 +7,13 @@ ghost use Rattle.drawing.specs.Session.{Outcome};
 ghost use Rattle.format.specs.Calls.{map_session};
 ghost use Rattle.format.specs.Open.{open_refusal};
 ghost use Rattle.format.specs.Sessions.{calls_of, ran_of, statuses_of, values_of};
-ghost use Rattle.calling.specs.Lists.{Surveyed};
 ghost use Rattle.sessions.specs.Runs.{Room, Leaves};
 
 use crate::codes::{NO_CALL, are_calls};
 use answers::{Place, PlaceAnswer};
 use calling::tell;
 use layout::bits_a;
-use surveying::survey;
+use surveying::{Lists, Survey};
 
 // A list of calls is short that has fewer than FEW, and one more for so many places: a call that walks through the bytes takes
 // as long as the pass takes for so many places, and FEW of them as long as making the lists.
@@ -68,7 +67,7 @@ fn run_open(
         result.0 statuses.old answers.old statuses.new answers.new }
 {
     if is_short(map, calls) {
-        return run_walking(map, first, calls, statuses, answers);
+        return run(&Survey::empty(map), first, calls, statuses, answers);
     }
     run_surveyed(map, first, calls, statuses, answers)
 }
@@ -76,22 +75,6 @@ fn run_open(
 // Whether a list of calls is short. The answers are the same either way.
 fn is_short(map: &[u8], calls: &[u8]) -> bool {
     calls.len() < FEW + bits_a(map) / PLACES_A_CALL
-}
-
-// Few calls: the lists are empty.
-fn run_walking(
-    map: &[u8],
-    first: Place,
-    calls: &[u8],
-    statuses: &mut [u8],
-    answers: &mut [u16],
-) -> Place
-    requires { (open_refusal map.now ≡ 0) × Room calls.now statuses.old answers.old }
-    ensures { Leaves (map_session map.now first.0 (calls_of calls.now))
-        result.0 statuses.old answers.old statuses.new answers.new }
-{
-    let none = [0u16; 0];
-    run(map, &none, &none, &none, first, calls, statuses, answers)
 }
 
 // Many calls: the lists have room for a map of every size.
@@ -106,63 +89,28 @@ fn run_surveyed(
     ensures { Leaves (map_session map.now first.0 (calls_of calls.now))
         result.0 statuses.old answers.old statuses.new answers.new }
 {
-    let mut mates = [0u16; 4096];
-    let mut areas = [0u16; 4096];
-    let mut points = [0u16; 4096];
-    run_lent(
-        map,
-        &mut mates,
-        &mut areas,
-        &mut points,
-        first,
-        calls,
-        statuses,
-        answers,
-    )
-}
-
-// One pass fills the lists, whatever they hold; then the calls.
-fn run_lent(
-    map: &[u8],
-    mates: &mut [u16; 4096],
-    areas: &mut [u16; 4096],
-    points: &mut [u16; 4096],
-    first: Place,
-    calls: &[u8],
-    statuses: &mut [u8],
-    answers: &mut [u16],
-) -> Place
-    requires { (open_refusal map.now ≡ 0) × Room calls.now statuses.old answers.old }
-    ensures { Leaves (map_session map.now first.0 (calls_of calls.now))
-        result.0 statuses.old answers.old statuses.new answers.new }
-{
-    survey(map, mates, areas, points);
-    run(map, mates, areas, points, first, calls, statuses, answers)
+    let mut lists = Lists::new();
+    run(&lists.survey(map), first, calls, statuses, answers)
 }
 
 // The calls in order: "It holds one number, the place".
 fn run(
-    map: &[u8],
-    mates: &[u16],
-    areas: &[u16],
-    points: &[u16],
+    survey: &Survey,
     first: Place,
     calls: &[u8],
     statuses: &mut [u8],
     answers: &mut [u16],
 ) -> Place
-    requires { Surveyed map.now mates.now areas.now points.now × Room calls.now statuses.old answers.old }
-    ensures { Leaves (map_session map.now first.0 (calls_of calls.now))
+    requires { Room calls.now statuses.old answers.old }
+    ensures { Leaves (map_session survey.now.map.now first.0 (calls_of calls.now))
         result.0 statuses.old answers.old statuses.new answers.new }
 {
     let mut place = first;
-    let mut i = 0;
-    while i < calls.len() {
-        let told = tell(map, mates, areas, points, calls[i], place);
+    for i in 0..calls.len() {
+        let told = tell(survey, calls[i], place);
         statuses[i] = told.status;
         answers[i] = told.value;
         place = told.place;
-        i += 1;
     }
     place
 }

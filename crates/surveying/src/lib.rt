@@ -1,16 +1,18 @@
 // The whole map in one pass: the mate, the area and the point of every place, for calls that ask about many.
 //
 //     survey                   fills three lists of a map, each with an entry for every place
-//     own_mate_in              the partner of a position, in its own family
-//     step_in, back_in         the next position about the same point, the same area; the one before
-//     point_in, area_in        its point, its area
+//     Lists                    room for such lists; its survey fills them and gives the Survey of a map
+//     Survey                   a map with its lists, or with empty ones:
+//       own_mate               the partner of a position, in its own family
+//       step, back             the next position about the same point, the same area; the one before
+//       point, area            its point, its area
 //
 // Conventions. Positions count from 0: position p is place p + 1. Entry p of `mates` is the position that crossing p
 // leads to; entry p of `areas` and of `points` is the number of its area and of its point, from 1. The lists stand on
 // the stack of whoever calls, with room for the largest map; the entries beyond the last position stay as they were.
-// The other functions look up in such lists. For a position that a list has no entry for they walk through the bytes
-// as the crate `walking` does, so that an empty list serves where few places are asked about. All ask that the bytes
-// open: whoever calls has checked.
+// A Survey looks up in its lists. For a position that a list has no entry for it walks through the bytes as the crate
+// `walking` does, so that empty lists serve where few places are asked about. The bytes of a Survey open: whoever makes
+// one has checked, and whoever is given one need not ask.
 //
 // The pass is that of the crate `pairing`, which reads A, B and B* once, forwards, and knows no map. The source is document
 // 01, "Tour and packed map" and "Moves": the area of a place is that of the innermost [ open just before it, its point that of
@@ -18,8 +20,10 @@
 // `format` finds in the bytes; proofs/Laws.antt has the laws for those who count in the lists.
 #![tactic(auto)]
 
+mod lists;
 mod moves;
 mod pass;
 
-pub use moves::{area_in, back_in, own_mate_in, point_in, step_in};
+pub use lists::{Lists, MOST_PLACES};
+pub use moves::Survey;
 pub use pass::survey;

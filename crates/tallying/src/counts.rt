@@ -1,19 +1,13 @@
 // Counting the sides of all areas in one loop over the places of a map.
-ghost use Rattle.std.specs.Prelude.{◌≡◌, ◌-◌, ◌<◌, ◌≤◌, length};
+ghost use Rattle.std.specs.Prelude.{◌≡◌, ◌<◌, ◌≤◌, length};
 ghost use Rattle.answers.specs.Lent.{laid};
-ghost use Rattle.words.specs.Brackets.{number};
-ghost use Rattle.words.specs.declared.family.Family.TheVariants.{Square as square};
-ghost use Rattle.words.specs.Word.{seen};
-ghost use Rattle.format.specs.Bytes.{word_in};
 ghost use Rattle.format.specs.Open.{open_refusal};
-ghost use Rattle.surveying.specs.Surveyed.{Numbers};
-ghost use Rattle.walking.specs.Positions.{Position};
 ghost use Rattle.tallying.specs.Tallied.{sides_in, firsts_in, Blank, Tallied, entry_at, HasEntry, Noted};
 
 use crate::entries::index_of;
 use answers::{Area, Place};
 use layout::bits_a;
-use surveying::{area_in, survey};
+use surveying::{Lists, Survey};
 
 // The most areas of a map: 2,048 borders on one point.
 pub const MOST_AREAS: usize = 2049;
@@ -25,37 +19,22 @@ pub fn tally(map: &[u8], sides: &mut [u16; MOST_AREAS], firsts: &mut [u16; MOST_
     ensures firsts_after { firsts.new ≡ laid (firsts_in map.now) firsts.old }
     ensures tallied { Tallied map.now sides.new firsts.new }
 {
-    let mut mates = [0u16; 4096];
-    let mut areas = [0u16; 4096];
-    let mut points = [0u16; 4096];
-    survey(map, &mut mates, &mut areas, &mut points);
-    count_sides(map, &areas, sides, firsts);
+    let mut lists = Lists::new();
+    count_sides(&lists.survey(map), sides, firsts);
 }
 
 // Each place is a side of its area. They are met from the last down, so that the place stored last for an area is its first: nothing
 // is chosen, and there is no jump, which the areas of a map would make slow.
-fn count_sides(map: &[u8], areas: &[u16; 4096], sides: &mut [u16], firsts: &mut [u16])
-    requires map_value { (open_refusal map.now ≡ 0) × Numbers square map.now areas.now }
+fn count_sides(survey: &Survey, sides: &mut [u16], firsts: &mut [u16])
     requires blank { Blank sides.old × (2049 ≤ length sides.old) × Blank firsts.old × (2049 ≤ length firsts.old) }
-    ensures sides_after { sides.new ≡ laid (sides_in map.now) sides.old }
-    ensures firsts_after { firsts.new ≡ laid (firsts_in map.now) firsts.old }
-    ensures tallied { Tallied map.now sides.new firsts.new }
+    ensures sides_after { sides.new ≡ laid (sides_in survey.now.map.now) sides.old }
+    ensures firsts_after { firsts.new ≡ laid (firsts_in survey.now.map.now) firsts.old }
+    ensures tallied { Tallied survey.now.map.now sides.new firsts.new }
 {
-    let mut p = bits_a(map);
-    while p > 0 {
-        let place = Place(p);
-        let area = own_area(map, areas, place);
-        note_side(sides, firsts, area, place);
-        p -= 1;
+    for p in (0..bits_a(survey.map)).rev() {
+        let area = survey.area(p);
+        note_side(sides, firsts, area, Place(p + 1));
     }
-}
-
-// The area that a place is a side of.
-fn own_area(map: &[u8], areas: &[u16], place: Place) -> Area
-    requires { (1 ≤ place.0) × Position map.now (place.0 - 1) × Numbers square map.now areas.now }
-    ensures { result.0 ≡ number (seen square (word_in map.now)) (place.0 - 1) }
-{
-    area_in(map, areas, place.0 - 1)
 }
 
 // Notes a side of an area: it is counted, and its place stands for the first, until a lower one is noted.

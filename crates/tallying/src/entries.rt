@@ -3,7 +3,6 @@ ghost use Rattle.std.specs.Prelude.{◌≡◌, ◌-◌, ◌<◌, ◌≤◌};
 ghost use Rattle.tallying.specs.Tallied.{entry_at, HasEntry};
 
 use answers::{Area, Place};
-use lending::wide;
 
 // How many sides an area has, by the list of the sides.
 pub fn sides_of(sides: &[u16], area: Area) -> usize
@@ -11,7 +10,7 @@ pub fn sides_of(sides: &[u16], area: Area) -> usize
     ensures { (result ≡ entry_at sides.now area.0) × (result < 65536) }
 {
     let k = index_of(area);
-    wide(sides[k])
+    usize::from(sides[k])
 }
 
 // The first place of an area, by the list of the first places.
@@ -20,7 +19,7 @@ pub fn first_of(firsts: &[u16], area: Area) -> Place
     ensures { (result.0 ≡ entry_at firsts.now area.0) × (result.0 < 65536) }
 {
     let k = index_of(area);
-    Place(wide(firsts[k]))
+    Place(usize::from(firsts[k]))
 }
 
 // Where the lists have the entry of an area.

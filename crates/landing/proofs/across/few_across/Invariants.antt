@@ -8,4 +8,4 @@ abbrev pub invariant-loop-work : goal.invariant-loop-work
 invariant-loop-work l = Walking l.map (area_of l.map l.initial.p) (length l.initial.list) l.most l.p l.c l.work l.list
 
 abbrev pub decreases-loop-work : goal.decreases-loop-work
-decreases-loop-work l = l.most - l.c
+decreases-loop-work l = l.most - l.work

@@ -11,10 +11,7 @@ overflow_sub-p c = search (counts_le, rules)
 
 pub line_at-line-requires : goal.line_at-line-requires
 line_at-line-requires c =
-    record {
-      position = (lined_position _ _ _ _ _ _ _ _ c.loop-p.invariant c.loop-p-test.true, kind_read _ _ _ c.loop-p.invariant.running _ _ _ _ _ _ _ c.part_a-a.ensures c.part_b-b.ensures c.part_b-c.ensures c.bit-marked.ensures.0 c.bit.ensures.0 c.bit-in-loop-p.ensures.0 c.kind_of-bracket.ensures);
-      mates = c.requires.mates;
-    }
+    (lined_position _ _ _ _ _ _ _ _ c.loop-p.invariant c.loop-p-test.true, kind_read _ _ _ c.loop-p.invariant.running _ _ _ _ _ _ _ c.part_a-a.ensures c.part_b-b.ensures c.part_b-c.ensures c.bit-marked.ensures.0 c.bit.ensures.0 c.bit-in-loop-p.ensures.0 c.kind_of-bracket.ensures)
 
 pub put_line-next-requires : goal.put_line-next-requires
 put_line-next-requires c = search (lined_room, rules)

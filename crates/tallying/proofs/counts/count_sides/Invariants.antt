@@ -3,7 +3,4 @@ use Rattle.tallying.proofs.Counting.{Tallying}
 use Rattle.tallying.proofs.counts.count_sides.Given as goal
 
 abbrev pub invariant-loop-p : goal.invariant-loop-p
-invariant-loop-p l = Tallying l.map l.initial.sides l.initial.firsts l.p l.sides l.firsts
-
-abbrev pub decreases-loop-p : goal.decreases-loop-p
-decreases-loop-p l = l.p
+invariant-loop-p l = Tallying l.survey.map.now l.initial.sides l.initial.firsts l.p l.sides l.firsts

@@ -1,8 +1,8 @@
--- `surveying::moves::mate_in` meets its contract. Assumes nothing.
+-- `surveying::moves::Survey::mate` meets its contract. Assumes nothing.
 use Rattle.walking.proofs.Walks.{mate_other}
 use Rattle.surveying.proofs.Looked.{cross_in_at, mate_in_entry}
 use borrow.Author.Rules.{rules}
-use Rattle.surveying.proofs.moves.mate_in.Goals as goal
+use Rattle.surveying.proofs.moves.Survey.mate.Goals as goal
 
 pub returns-then-bit-family_bit : goal.returns-then-bit-family_bit
 returns-then-bit-family_bit c =

@@ -1,6 +1,6 @@
--- `surveying::moves::step_in` meets its contract. Assumes nothing.
+-- `surveying::moves::Survey::step` meets its contract. Assumes nothing.
 use Rattle.walking.proofs.Walks.{after_below, after_few, step_is, step_position}
-use Rattle.surveying.proofs.moves.step_in.Goals as goal
+use Rattle.surveying.proofs.moves.Survey.step.Goals as goal
 
 pub after-requires : goal.after-requires
 after-requires c = (search after_below, search after_few)

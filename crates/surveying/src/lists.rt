@@ -1,0 +1,42 @@
+// The memory of the lists, and a map surveyed into it.
+ghost use Rattle.std.specs.Prelude.{◌≡◌, length};
+ghost use Rattle.format.specs.Open.{open_refusal};
+
+use crate::moves::Survey;
+use crate::pass::survey;
+
+// The most places of a map.
+pub const MOST_PLACES: usize = 4096;
+
+// Room for the lists of the largest map, on the stack of whoever asks.
+#[derive(Drop)]
+pub struct Lists {
+    mates: [u16; MOST_PLACES],
+    areas: [u16; MOST_PLACES],
+    points: [u16; MOST_PLACES],
+}
+
+impl Lists {
+    pub fn new() -> Lists {
+        Lists {
+            mates: [0; MOST_PLACES],
+            areas: [0; MOST_PLACES],
+            points: [0; MOST_PLACES],
+        }
+    }
+
+    // One pass over the map fills the lists, whatever they held.
+    pub fn survey<'a>(&'a mut self, map: &'a [u8]) -> Survey<'a>
+        requires { open_refusal map.now ≡ 0 }
+        ensures of_map { result.map.now ≡ map.now }
+        ensures whole { (4096 ≡ length result.mates.now) × (4096 ≡ length result.areas.now) × (4096 ≡ length result.points.now) }
+    {
+        survey(map, &mut self.mates, &mut self.areas, &mut self.points);
+        Survey {
+            map,
+            mates: &self.mates,
+            areas: &self.areas,
+            points: &self.points,
+        }
+    }
+}
