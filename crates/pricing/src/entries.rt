@@ -18,7 +18,9 @@ pub fn lists_fit(kinds: &[u8], values: &[f64], areas: usize) -> bool
     requires { areas < 65538 }
     ensures { result ≡ tariff_fits areas kinds.now values.now }
 {
-    kinds.len() == areas && values.len() == 3 * areas && (0..areas).all(|i| entry_fits(kinds, values, i))
+    kinds.len() == areas
+        && values.len() == 3 * areas
+        && (0..areas).all(|i| entry_fits(kinds, values, i))
 }
 
 // Whether what the lists say of one area is allowed; areas count from 0 here.

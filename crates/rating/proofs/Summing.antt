@@ -41,11 +41,10 @@ pub sum_more : (l kinds : List ℕ) (values : List Float) (i j : ℕ) (r q : Run
     → (q.count ≤ i + 1) × (q ≡ sum_across kinds values (take (i + 1) l))
 unfolding sum_across
 sum_more l kinds values i j r q f h hj hf hq e =
-    let t : ℕ → Factor = factor_at kinds values in
-    (
+    let t : ℕ → Factor = factor_at kinds values in (
       omega (arith, ap (λ (x : Running). x.count) hq, added_most r f, e.0),
       hq ∙ ap (added r) (hf ∙ ap t hj) ∙ ap (λ x. added x (t (get_or l i 0))) e.1 ∙ sym (summed_last t (take i l) (get_or l i 0) begun)
-      ∙ ap (λ js. summed t js begun) (sym (take-suc l i 0 h)) ∙ ap (λ n. summed t (take n l) begun) (sym (add-one i))
+          ∙ ap (λ js. summed t js begun) (sym (take-suc l i 0 h)) ∙ ap (λ n. summed t (take n l) begun) (sym (add-one i)),
     )
 
 -- ---- the areas across the sides of an area

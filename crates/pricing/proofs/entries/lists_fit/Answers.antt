@@ -12,8 +12,8 @@ returns-then-values-areas c =
     let fits = entry_fits c.args.kinds.now c.args.values.now in
     let v = c.args.areas in
     let each = all_below fits v _
-        (cases_from_all _ _ _ (λ i. fits i ≡ true) (λ i. fits i ≡ false) c.all.ensures.ran (YieldsList-from_range 0 v v refl (omega arith))
-        (λ x q k. search (rules, tests)) (λ x q k. search (rules, tests))) in
+    (cases_from_all _ _ _ (λ i. fits i ≡ true) (λ i. fits i ≡ false) c.all.ensures.ran (YieldsList-from_range 0 v v refl (omega arith))
+    (λ x q k. search (rules, tests)) (λ x q k. search (rules, tests))) in
     elim c.if-kinds-areas.branch [
       | then-kinds-areas w ↦ lists_each _ _ v _ (eq-eqb _ v w.if-kinds-areas.true) (sym w.value-is ∙ c.if-values-areas.true) each
       | else-kinds-areas w ↦ absurd (true_not_false _ (sym w.value-is ∙ c.if-values-areas.true) (ne_eqb _ v w.if-kinds-areas.false))

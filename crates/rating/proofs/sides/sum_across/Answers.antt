@@ -1,5 +1,5 @@
 -- `rating::sides::sum_across` meets its contract. Assumes nothing.
-use Rattle.std.proofs.Common.{rules, sym, arith}
+use Rattle.std.proofs.Common.{rules, sym}
 use Rattle.std.proofs.lemmas.List.{length-take-le}
 use Rattle.rating.proofs.Summing.{landed_fits, summable_all, summed_all}
 use Rattle.rating.proofs.sides.sum_across.Goals as goal
