@@ -1,23 +1,25 @@
 -- Counting the areas of a list, each once, and what that says of an area's neighbours.
 --
 -- Counting        == what the loop of `count_in` keeps: the entries before i are counted
--- own_index, area_index, flag_most, others_fit == there is a flag for the area, and what is stored fits
 -- counting_start, counting_more, counting_end == before the first entry, one more, after the last
+-- others_fit      == the count fits
 -- landed_others   == the others among the areas across the sides of an area are its neighbours
+-- landed_fits     == the areas across are in the list
 -- countable_all, counted_all == so they are counted
 -- Assumes nothing.
 use mathlib.Core.Path.{◌≡◌, refl, sym, ap, ◌∙◌}
 use mathlib.Core.Logic.{◌≢◌, inl, inr}
 use mathlib.Core.Bool.{Bool, true, false, not, ◌&&◌, ◌||◌}
 use mathlib.Core.List.{List}
-use Prim.Native.Nat.{ℕ, suc, pred, ◌+◌, ◌-◌, ◌≤◌, ◌<◌}
+use Prim.Native.Nat.{ℕ, suc, pred, ◌+◌, ◌≤◌, ◌<◌}
 use native.Mathlib.Numerals.{add-one}
 use native.Mathlib.Omega.{arith}
 use lib.Dec.{eqb}
-use lib.ListN.{length, get_or, set, length-set, replicate, length-replicate, get_or-replicate}
-use lib.Seq.{get_or-set_same, get_or-set_other}
+use lib.ListN.{length, get_or, set, take, length-set, replicate, length-replicate, get_or-replicate}
+use lib.Seq.{get_or-set_same, get_or-set_other, length-take-le, get_or-take}
+use Rattle.std.specs.Int.{from_bool}
 use borrow.Author.Tests.{eq-eqb, ne_eqb, eqb-true}
-use Rattle.count.specs.Below.{pick, count, nth, any}
+use Rattle.count.specs.Below.{count, nth, any}
 use Rattle.count.proofs.Logic.{same_or_not, true_or_false, true_not_false, bool_same, one_of, either_left, either_right, both, not_both}
 use Rattle.count.proofs.Below.{count_le, count_none, count_same, count_stays, count_before, count_one_less, nth_below, nth_has, nth_of_count, any_has, any_from}
 use Rattle.answers.specs.declared.numbers.Area.{Area}
@@ -36,14 +38,6 @@ use Rattle.landing.specs.Landed.{Landed}
 use Rattle.landing.proofs.Gathering.{landed_count, landed_most, landed_at, landed_range}
 use Rattle.neighbouring.specs.Counted.{neighbours_at, others_in, Countable}
 
--- a flag: 1 where the test holds
-abbrev flag : Bool → ℕ
-flag t = pick t 1 0
-
-flag_le : (t : Bool) → flag t ≤ 1
-flag_le true = omega arith
-flag_le false = omega arith
-
 neither : (x y : Bool) → x || y ≡ false → (x ≡ false) × (y ≡ false)
 neither true y e = absurd (true_not_false true refl e)
 neither false y e = (refl, e)
@@ -56,8 +50,13 @@ any_zero : (P : ℕ → Bool) → any P 0 ≡ false
 unfolding any
 any_zero P = refl
 
+-- what a flag that is not set adds
+added_le : (t : Bool) → from_bool t ≤ 1
+added_le true = omega arith
+added_le false = omega arith
+
 -- ---- the loop
-module _ (l : List ℕ) (c k : ℕ) where
+module _ (l : List ℕ) (k : ℕ) where
   -- whether area j is among the first i entries; whether it was met before them, as the area itself always was
   abbrev among : ℕ → ℕ → Bool
   among i j = any (λ x. eqb (get_or l x 0) j) i
@@ -77,27 +76,23 @@ module _ (l : List ℕ) (c k : ℕ) where
   among_there : (i j : ℕ) → get_or l i 0 ≡ j → among (i + 1) j ≡ true
   among_there i j e = among_more i j ∙ either_left (eqb (get_or l i 0) j) (among i j) (eq-eqb (get_or l i 0) j e)
 
-  pub record Counting (i others : ℕ) (met : List ℕ) : Type 0 where
-    pub within : i ≤ c
+  pub record Counting (i others : ℕ) (met : List Bool) : Type 0 where
     pub long : length met ≡ 2050
-    pub flags : (j : ℕ) → j ≤ 2049 → get_or met j 0 ≡ flag (met_before i j)
+    pub flags : (j : ℕ) → j ≤ 2049 → get_or met j false ≡ met_before i j
     pub count : others ≡ others_in l i k
 
-  module _ (B : Countable l c k) where
-    pub own_index : k < 2050
-    own_index = omega (arith, B.own)
-
-    -- a list of zeros, with the flag of the area itself
-    module _ (zeros : List ℕ) (long : length zeros ≡ 2050) (zero : (i : ℕ) → i < 2050 → get_or zeros i 0 ≡ 0) where
-      begun_flags : (j : ℕ) → j ≤ 2049 → get_or (set zeros k 1) j 0 ≡ flag (met_before 0 j)
+  module _ (B : Countable l (length l) k) where
+    -- no flag, but that of the area itself
+    module _ (none : List Bool) (long : length none ≡ 2050) (clear : (i : ℕ) → i < 2050 → get_or none i false ≡ false) where
+      begun_flags : (j : ℕ) → j ≤ 2049 → get_or (set none k true) j false ≡ met_before 0 j
       begun_flags j h =
           elim (same_or_not j k) [
             | inl e ↦
-                ap (λ x. get_or (set zeros k 1) x 0) e ∙ get_or-set_same zeros k 1 0 (omega (arith, own_index))
-                ∙ sym (ap flag (either_left (eqb j k) (among 0 j) (eq-eqb j k e)))
+                ap (λ x. get_or (set none k true) x false) e ∙ get_or-set_same none k true false (omega (arith, B.own))
+                ∙ sym (either_left (eqb j k) (among 0 j) (eq-eqb j k e))
             | inr d ↦
-                get_or-set_other zeros k j 1 0 d ∙ zero j (omega arith)
-                ∙ sym (ap flag (ap (λ t. t || among 0 j) (ne_eqb j k d) ∙ any_zero (λ x. eqb (get_or l x 0) j)))
+                get_or-set_other none k j true false d ∙ clear j (omega arith)
+                ∙ sym (ap (λ t. t || among 0 j) (ne_eqb j k d) ∙ any_zero (λ x. eqb (get_or l x 0) j))
           ]
 
       none_counted : others_in l 0 k ≡ 0
@@ -106,35 +101,29 @@ module _ (l : List ℕ) (c k : ℕ) where
           count_none (counted 0) 2049
           (λ a h. not_both (not (eqb (suc a) k)) (among 0 (suc a)) (λ d t. true_not_false (among 0 (suc a)) t (any_zero (λ x. eqb (get_or l x 0) (suc a)))))
 
-      counting_begun : Counting 0 0 (set zeros k 1)
-      counting_begun =
-          record { within = omega arith; long = length-set zeros k 1 ∙ long; flags = begun_flags; count = sym none_counted }
+      counting_begun : Counting 0 0 (set none k true)
+      counting_begun = record { long = length-set none k true ∙ long; flags = begun_flags; count = sym none_counted }
 
-    pub counting_start : Counting 0 0 (set (replicate 2050 0) k 1)
-    counting_start = counting_begun (replicate 2050 0) (length-replicate {A = ℕ} 2050 0) (λ i h. get_or-replicate 2050 i 0 0 h)
+    pub counting_start : Counting 0 0 (set (replicate 2050 false) k true)
+    counting_start =
+        counting_begun (replicate 2050 false) (length-replicate {A = Bool} 2050 false) (λ i h. get_or-replicate 2050 i false false h)
 
-    module _ (i others : ℕ) (met : List ℕ) (C : Counting i others met) where
-      pub counting_end : c ≤ i → others ≡ others_in l c k
-      counting_end h = let e : i ≡ c = omega (arith, C.within) in C.count ∙ ap (λ x. others_in l x k) e
+    module _ (i others : ℕ) (met : List Bool) (C : Counting i others met) where
+      pub counting_end : i ≤ length l → length l ≤ i → others ≡ others_in l (length l) k
+      counting_end w h = let e : i ≡ length l = omega arith in C.count ∙ ap (λ x. others_in l x k) e
 
-      module _ (h : i < c) (j : ℕ) (hj : j ≡ get_or l i 0) where
-        pub entry_index : i < length l
-        entry_index = omega (arith, B.long)
-
-        pub area_index : j < 2050
+      module _ (h : i < length l) (j : ℕ) (hj : j ≡ get_or l i 0) (n : ℕ) (hn : n ≡ from_bool (not (get_or met j false))) where
+        area_index : j < 2050
         area_index = omega (arith, B.each i h)
-
-        pub flag_most : get_or met j 0 ≤ 1
-        flag_most = omega (arith, area_index, C.flags j (omega (arith, area_index)), flag_le (met_before i j))
 
         others_few : others_in l i k ≤ 2049
         unfolding others_in
         others_few = count_le (counted i) 2049
 
-        pub others_fit : others + (1 - get_or met j 0) < 18446744073709551616
-        others_fit = omega (arith, C.count, others_few)
+        pub others_fit : others + n < 18446744073709551616
+        others_fit = omega (arith, C.count, others_few, hn, added_le (not (get_or met j false)))
 
-        met_flag : get_or met j 0 ≡ flag (met_before i j)
+        met_flag : get_or met j false ≡ met_before i j
         met_flag = C.flags j (omega (arith, area_index))
 
         count_met : met_before i j ≡ true → others_in l (i + 1) k ≡ others_in l i k
@@ -167,23 +156,22 @@ module _ (l : List ℕ) (c k : ℕ) where
             ∙ not_both (not (eqb j k)) (among i j) (λ t u. true_not_false (among i j) u n.1))
             (λ a b m. ap (λ y. not (eqb (suc a) k) && y) (among_kept i (suc a) (λ e. m (omega arith)))))
 
-        pub counting_more : Counting (i + 1) (others + (1 - get_or met j 0)) (set met j 1)
+        pub counting_more : Counting (i + 1) (others + n) (set met j true)
         counting_more =
             record {
-              within = omega arith;
-              long = length-set met j 1 ∙ C.long;
+              long = length-set met j true ∙ C.long;
               flags = λ a b.
                   elim (same_or_not a j) [
                     | inl e ↦
-                        ap (λ x. get_or (set met j 1) x 0) e ∙ get_or-set_same met j 1 0 (omega (arith, area_index, C.long))
-                        ∙ sym (ap flag (either_right (eqb a k) (among (i + 1) a) (among_there i a (sym (e ∙ hj)))))
+                        ap (λ x. get_or (set met j true) x false) e ∙ get_or-set_same met j true false (omega (arith, area_index, C.long))
+                        ∙ sym (either_right (eqb a k) (among (i + 1) a) (among_there i a (sym (e ∙ hj))))
                     | inr d ↦
-                        get_or-set_other met j a 1 0 d ∙ C.flags a b
-                        ∙ sym (ap (λ t. flag (eqb a k || t)) (among_kept i a (λ e. d (sym (hj ∙ e)))))
+                        get_or-set_other met j a true false d ∙ C.flags a b
+                        ∙ sym (ap (λ t. eqb a k || t) (among_kept i a (λ e. d (sym (hj ∙ e)))))
                   ];
               count = elim (true_or_false (met_before i j)) [
-                | inl t ↦ omega (arith, C.count, met_flag ∙ ap flag t, count_met t)
-                | inr f ↦ omega (arith, C.count, met_flag ∙ ap flag f, count_new f)
+                | inl t ↦ omega (arith, C.count, hn ∙ ap (λ x. from_bool (not x)) (met_flag ∙ t), count_met t)
+                | inr f ↦ omega (arith, C.count, hn ∙ ap (λ x. from_bool (not x)) (met_flag ∙ f), count_new f)
               ];
             }
 
@@ -192,23 +180,26 @@ module _ (s l : List ℕ) (a : Area) (c : ℕ) (L : Landed s a.0 c l) (N : Numbe
   abbrev k : ℕ
   k = a.0
 
-  countable : c ≤ length l → Countable l c a.0
+  pub landed_fits : 4096 ≤ length l → c ≤ length l
+  landed_fits h = omega (arith, landed_most s k c l N.opens L)
+
+  countable : length l ≡ c → Countable l (length l) a.0
   countable h =
       let most = areas_most s N.opens in
       record {
-        long = h;
+        long = omega arith;
         own = omega (arith, N.most);
-        each = λ i b. let r = landed_range s k c l N.opens L i b in (r.0, omega (arith, r.1));
+        each = λ i b. let r = landed_range s k c l N.opens L i (omega arith) in (r.0, omega (arith, r.1));
       }
 
-  among_across : (j : ℕ) → is_across (number (seen square (word_in s))) (mate_in (word_in s)) (bits_a (size_in s)) k j ≡ among l c k c j
+  among_across : (j : ℕ) → is_across (number (seen square (word_in s))) (mate_in (word_in s)) (bits_a (size_in s)) k j ≡ among l k c j
   among_across j =
       let area : ℕ → ℕ = number (seen square (word_in s)) in
       let cross : ℕ → ℕ = mate_in (word_in s) in
       let n : ℕ = bits_a (size_in s) in
       let on : ℕ → Bool = λ p. eqb (area p) k in
       let d : c ≡ count on n = landed_count s k c l N.opens L in
-      bool_same (is_across area cross n k j) (among l c k c j)
+      bool_same (is_across area cross n k j) (among l k c j)
       (λ t.
       let x = (across_is area cross n k j).sound t in
       let p : ℕ = x.side in
@@ -233,17 +224,25 @@ module _ (s l : List ℕ) (a : Area) (c : ℕ) (L : Landed s a.0 c l) (N : Numbe
   unfolding others_in neighbours_in neighbours word_in
   landed_others =
       let v : ℕ = cells_in (size_in s) Kind.area in
-      count_stays (counted l c k c) v 2049 (omega (arith, areas_most s N.opens))
+      count_stays (counted l k c) v 2049 (omega (arith, areas_most s N.opens))
       (λ x h b.
-      not_both (not (eqb (suc x) k)) (among l c k c (suc x))
+      not_both (not (eqb (suc x) k)) (among l k c (suc x))
       (λ d t.
       let y = any_has (λ z. eqb (get_or l z 0) (suc x)) c t in
       omega (arith, landed_range s k c l N.opens L y.0 y.1, eqb-true (get_or l y.0 0) (suc x) y.2)))
-      ∙ count_same (counted l c k c) (λ i. not (eqb (suc i) k) && is_across (number (seen square (word_in s))) (mate_in (word_in s)) (bits_a (size_in s)) k (suc i)) v
+      ∙ count_same (counted l k c) (λ i. not (eqb (suc i) k) && is_across (number (seen square (word_in s))) (mate_in (word_in s)) (bits_a (size_in s)) k (suc i)) v
       (λ i h. ap (λ t. not (eqb (suc i) k) && t) (sym (among_across (suc i))))
 
-  pub countable_all : 4096 ≤ length l → Countable l c a.0
-  countable_all h = countable (omega (arith, landed_most s k c l N.opens L))
+-- in a list with room for them, cut where they end
+module _ (s l : List ℕ) (a : Area) (c : ℕ) (L : Landed s a.0 c l) (N : Numbered s (Cell.Area a)) (h : 4096 ≤ length l) where
+  cut : Landed s a.0 c (take c l)
+  cut = record { count = L.count; each = λ i b. get_or-take c l i 0 b ∙ L.each i b }
 
-  pub counted_all : (r : ℕ) → r ≡ others_in l c a.0 → r ≡ neighbours_at s a.0
-  counted_all r e = e ∙ landed_others
+  long : length (take c l) ≡ c
+  long = length-take-le c l (landed_fits s l a c L N h)
+
+  pub countable_all : Countable (take c l) (length (take c l)) a.0
+  countable_all = countable s (take c l) a c cut N long
+
+  pub counted_all : (r : ℕ) → r ≡ others_in (take c l) (length (take c l)) a.0 → r ≡ neighbours_at s a.0
+  counted_all r e = e ∙ ap (λ n. others_in (take c l) n a.0) long ∙ landed_others s (take c l) a c cut N

@@ -1,5 +1,5 @@
 // Adding up the known factors across the sides of an area, in one loop over the list of the areas across.
-ghost use Rattle.std.specs.Prelude.{◌≡◌, take};
+ghost use Rattle.std.specs.Prelude.{◌≡◌, length};
 ghost use Rattle.answers.specs.Answer.{Kind};
 ghost use Rattle.format.specs.Bytes.{size_in, word_in};
 ghost use Rattle.format.specs.Calls.{cells_in, landings_in};
@@ -10,7 +10,6 @@ ghost use Rattle.rating.specs.Summed.{Summable};
 
 use answers::Area;
 use landing::land;
-use lending::wide;
 use pricing::{add, factor_in};
 use tariff::Running;
 
@@ -21,20 +20,17 @@ pub fn sum_across(map: &[u8], area: Area, kinds: &[u8], values: &[f64]) -> Runni
 {
     let mut list = [0u16; 4096];
     let sides = land(map, area, &mut list);
-    sum_in(&list, sides, kinds, values)
+    sum_in(&list[..sides], kinds, values)
 }
 
-// The sum of the known factors of the first areas of a list, in order.
-fn sum_in(list: &[u16], sides: usize, kinds: &[u8], values: &[f64]) -> Running
-    requires { Summable list.now sides kinds.now values.now }
-    ensures { result ≡ sum_across kinds.now values.now (take sides list.now) }
+// The sum of the known factors of the areas of a list, in order.
+fn sum_in(list: &[u16], kinds: &[u8], values: &[f64]) -> Running
+    requires { Summable list.now (length list.now) kinds.now values.now }
+    ensures { result ≡ sum_across kinds.now values.now list.now }
 {
     let mut sum = Running { sum: 0.0, count: 0 };
-    let mut i = 0;
-    while i < sides {
-        let area = Area(wide(list[i]));
-        sum = add(sum, factor_in(kinds, values, area));
-        i += 1;
+    for &k in list {
+        sum = add(sum, factor_in(kinds, values, Area(usize::from(k))));
     }
     sum
 }

@@ -4,9 +4,9 @@
 -- mate_own, mate_own_at, mate_other == the partner of a position of the family, and of one of the other family
 -- cross_is, mate_crossed      == the crossing is the partner in the position's own family
 -- after_next, after_last, after_below, after_few == the position after one, and what is asked for it
--- sum_mate, sum_at            == the partner in a family, by a sum of the crossing and the position itself
--- own_fits, other_fits, sum_fits == the numbers that make it up
+-- sum_mate                    == the partner in a family, by a sum of the crossing and the position itself
 -- step_is, step_position      == the step is the position after the partner
+-- position                    == what opens and is below the number of places
 -- before_first, before_other  == the position before one
 -- back_is                     == the step back is the partner of the position before
 -- number_is_rank              == the number
@@ -14,7 +14,7 @@
 -- first_holds, first_one, first_more == it holds of `first`, which is 0 for number 1, else after the opening that reaches it
 -- first_at                == it is a position
 -- Assumes nothing.
-use mathlib.Core.Path.{◌≡◌, refl, sym, ap, ◌∙◌, subst}
+use mathlib.Core.Path.{◌≡◌, refl, sym, ap, ◌∙◌}
 use mathlib.Core.Logic.{inl, inr}
 use mathlib.Core.List.{List}
 use Prim.Native.Nat.{ℕ, ◌+◌, ◌-◌, ◌*◌, ◌%◌, ◌<◌, ◌≤◌}
@@ -53,7 +53,7 @@ module _ (s : List ℕ) (p : ℕ) (a : List ℕ) (x : ℕ) (ha : a ≡ part_a s)
   unfolding word_in
   family_square m = sym (pick_no (eqb (bit (part_a s) p) 1) round square (ne_eqb (bit (part_a s) p) 1 (λ e. m (sym bit_is ∙ e))))
 
-position : (s : List ℕ) (r : ℕ) → open_refusal s ≡ 0 → r < bits_a (size_in s) → Position s r
+pub position : (s : List ℕ) (r : ℕ) → open_refusal s ≡ 0 → r < bits_a (size_in s) → Position s r
 position s r o l = record { opens = o; below = l; few = omega (arith, places_most s o) }
 
 -- ---- the position after one
@@ -148,48 +148,23 @@ module _ (o p q : ℕ) where
   sum_other : o ≡ 1 → ((1 - o) * q ≡ 0) × (o * p ≡ p)
   sum_other z = (ap (λ y. (1 - y) * q) z ∙ omega arith, ap (λ y. y * p) z ∙ omega arith)
 
-  sum_most : o < 2 → ((1 - o) * q ≤ q) × (o * p ≤ p)
-  sum_most l =
-      elim (same_or_not o 0) [
-        | inl z ↦ (omega (arith, (sum_own z).0), omega (arith, (sum_own z).1))
-        | inr d ↦ let z : o ≡ 1 = omega arith in (omega (arith, (sum_other z).0), omega (arith, (sum_other z).1))
-      ]
-
 module _ (s : List ℕ) (p q : ℕ) (P : Position s p) (Q : Position s q) (v x : ℕ) (lv : v < 2) (lx : x < 2) where
   abbrev o : ℕ
   o = (x + v) % 2
 
-  most : ((1 - o) * q ≤ q) × (o * p ≤ p)
-  most = sum_most o p q (omega arith)
-
-  pub own_fits : (1 - (x + v) % 2) * q < 18446744073709551616
-  own_fits = omega (arith, most.0, Q.few)
-
-  pub other_fits : (x + v) % 2 * p < 18446744073709551616
-  other_fits = omega (arith, most.1, P.few)
-
-  pub sum_fits : (1 - (x + v) % 2) * q + (x + v) % 2 * p < 18446744073709551616
-  sum_fits = omega (arith, most.0, most.1, P.few, Q.few)
-
   module _ (K : Family) (C : q ≡ mate_in (word_in s) p) (a : List ℕ) (hv : v ≡ family_bit K) (ha : a ≡ part_a s) (hx : x ≡ bit a p) where
-    sum_is : ((1 - o) * q + o * p ≡ mate (seen K (word_in s)) (bits_a (size_in s)) p) × Position s ((1 - o) * q + o * p)
-    sum_is =
+    pub sum_mate : (1 - (x + v) % 2) * q + (x + v) % 2 * p ≡ mate (seen K (word_in s)) (bits_a (size_in s)) p
+    sum_mate =
         elim (same_or_not x v) [
           | inl e ↦
               let z = sum_own o p q (omega arith) in
               let r : (1 - o) * q + o * p ≡ q = omega (arith, z.0, z.1) in
-              (r ∙ mate_crossed s K p a v x q ha hx hv e C, subst (Position s) (sym r) Q)
+              r ∙ mate_crossed s K p a v x q ha hx hv e C
           | inr d ↦
               let z = sum_other o p q (omega arith) in
               let r : (1 - o) * q + o * p ≡ p = omega (arith, z.0, z.1) in
-              (r ∙ mate_other s K p P a v x hv ha hx d, subst (Position s) (sym r) P)
+              r ∙ mate_other s K p P a v x hv ha hx d
         ]
-
-    pub sum_mate : (1 - (x + v) % 2) * q + (x + v) % 2 * p ≡ mate (seen K (word_in s)) (bits_a (size_in s)) p
-    sum_mate = sum_is.0
-
-    pub sum_at : Position s ((1 - (x + v) % 2) * q + (x + v) % 2 * p)
-    sum_at = sum_is.1
 
 -- ---- the first position of a number
 pub record Firsts (s : List ℕ) (K : Family) (k f : ℕ) : Type 0 where

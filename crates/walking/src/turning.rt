@@ -13,6 +13,7 @@ ghost use Rattle.walking.specs.Positions.{Position};
 use answers::{Place, Turn};
 
 // Turn at p: r is the next position about the point, and higher than p unless p is the last.
+#[tactic(auto, using(crate::proofs::Turns::turn_is))]
 pub fn turn_to(map: &[u8], p: usize, r: usize) -> Turn
     requires { Position map.now p × Position map.now r × (r ≡ step (seen round (word_in map.now)) (bits_a (size_in map.now)) p) }
     ensures { turn_reply result ≡ reply_in (word_in map.now) Call.turn p }
@@ -24,6 +25,7 @@ pub fn turn_to(map: &[u8], p: usize, r: usize) -> Turn
 }
 
 // Turn back at p: q is the position before it about the point, and lower than p unless p is the first.
+#[tactic(auto, using(crate::proofs::Turns::turn_back_is))]
 pub fn turn_back_to(map: &[u8], p: usize, q: usize) -> Turn
     requires { Position map.now p × Position map.now q × (q ≡ back (seen round (word_in map.now)) (bits_a (size_in map.now)) p) }
     ensures { turn_reply result ≡ reply_in (word_in map.now) Call.turn_back p }

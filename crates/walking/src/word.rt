@@ -15,6 +15,7 @@ use opening::Cell;
 use words::Family;
 
 // The family of the bracket at position p.
+#[tactic(auto, using(crate::proofs::Walks::family_round, crate::proofs::Walks::family_square))]
 pub fn family_at(map: &[u8], p: usize) -> Family
     ensures { result ≡ ((word_in map.now).letter p).family }
 {
@@ -26,6 +27,7 @@ pub fn family_at(map: &[u8], p: usize) -> Family
 }
 
 // The partner of position p, in its own family.
+#[tactic(auto, using(crate::proofs::Walks::cross_is))]
 pub fn own_mate_at(map: &[u8], p: usize) -> usize
     requires { Position map.now p }
     ensures { (result ≡ mate_in (word_in map.now) p) × Position map.now result }
@@ -34,6 +36,7 @@ pub fn own_mate_at(map: &[u8], p: usize) -> usize
 }
 
 // The partner of position p in a family; p itself where p is of the other family.
+#[tactic(auto, using(crate::proofs::Walks::mate_own, crate::proofs::Walks::mate_own_at, crate::proofs::Walks::mate_other))]
 pub fn mate_at(map: &[u8], family: Family, p: usize) -> usize
     requires { Position map.now p }
     ensures value { result ≡ mate (seen family (word_in map.now)) (bits_a (size_in map.now)) p }
@@ -51,6 +54,7 @@ pub fn mate_at(map: &[u8], family: Family, p: usize) -> usize
 }
 
 // The next position about the point (area) of p: after the partner, and 0 after the last.
+#[tactic(auto, using(crate::proofs::Walks::step_is, crate::proofs::Walks::position, crate::proofs::Decoded::places_most))]
 pub fn step_at(map: &[u8], family: Family, p: usize) -> usize
     requires { Position map.now p }
     ensures value { result ≡ step (seen family (word_in map.now)) (bits_a (size_in map.now)) p }
@@ -60,6 +64,7 @@ pub fn step_at(map: &[u8], family: Family, p: usize) -> usize
 }
 
 // The same from q, the partner of p in its own family, wherever that was found.
+#[tactic(auto, using(crate::proofs::Walks::step_is, crate::proofs::Walks::position, crate::proofs::Decoded::places_most))]
 pub fn step_past(map: &[u8], family: Family, p: usize, q: usize) -> usize
     requires { Position map.now p × Position map.now q × (q ≡ mate_in (word_in map.now) p) }
     ensures value { result ≡ step (seen family (word_in map.now)) (bits_a (size_in map.now)) p }
@@ -70,6 +75,7 @@ pub fn step_past(map: &[u8], family: Family, p: usize, q: usize) -> usize
 
 // The partner of p in a family, from q, its partner in its own: `other` is 1 where p is of the other family. A sum and no jump:
 // which of the two it is can't be foreseen.
+#[tactic(auto, using(crate::proofs::Walks::sum_mate))]
 fn mate_of(map: &[u8], family: Family, p: usize, q: usize) -> usize
     requires { Position map.now p × Position map.now q × (q ≡ mate_in (word_in map.now) p) }
     ensures value { result ≡ mate (seen family (word_in map.now)) (bits_a (size_in map.now)) p }
@@ -80,6 +86,7 @@ fn mate_of(map: &[u8], family: Family, p: usize, q: usize) -> usize
 }
 
 // The position after q, of n; 0 after the last.
+#[tactic(auto, using(crate::proofs::Walks::after_next, crate::proofs::Walks::after_last))]
 pub fn after(n: usize, q: usize) -> usize
     requires { (q < n) × (n ≤ most_ends) }
     ensures { (result ≡ next n q) × (result < n) }
@@ -89,6 +96,7 @@ pub fn after(n: usize, q: usize) -> usize
 }
 
 // The position before p about its point (area): the partner of the position before.
+#[tactic(auto, using(crate::proofs::Walks::back_is))]
 pub fn back_at(map: &[u8], family: Family, p: usize) -> usize
     requires { Position map.now p }
     ensures value { result ≡ back (seen family (word_in map.now)) (bits_a (size_in map.now)) p }
@@ -98,6 +106,7 @@ pub fn back_at(map: &[u8], family: Family, p: usize) -> usize
 }
 
 // The position before p, of n; the last before 0.
+#[tactic(auto, using(crate::proofs::Walks::before_first, crate::proofs::Walks::before_other))]
 pub fn before(n: usize, p: usize) -> usize
     requires { p < n }
     ensures { (result ≡ previous n p) × (result < n) }
@@ -122,6 +131,7 @@ pub fn area_of(map: &[u8], p: usize) -> Area
 }
 
 // The first position of a point (area): 0, or the one after the bracket that reaches it.
+#[tactic(auto, using(crate::proofs::Walks::first_one, crate::proofs::Walks::first_more, crate::proofs::Walks::first_at))]
 pub fn first_at(map: &[u8], cell: Cell) -> usize
     requires { Numbered map.now cell × (0 < bits_a (size_in map.now)) }
     ensures value { result ≡ first (seen (family_of_kind (kind_of cell)) (word_in map.now)) (bits_a (size_in map.now)) (number_of_cell cell) }
@@ -137,6 +147,7 @@ pub fn first_at(map: &[u8], cell: Cell) -> usize
 }
 
 // The number of the point (area) of p.
+#[tactic(auto, using(crate::proofs::Walks::number_is_rank))]
 pub fn number_at(map: &[u8], family: Family, p: usize) -> usize
     requires { Position map.now p }
     ensures { result ≡ number (seen family (word_in map.now)) p }

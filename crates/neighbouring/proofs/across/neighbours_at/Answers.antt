@@ -1,10 +1,18 @@
 -- `neighbouring::across::neighbours_at` meets its contract. Assumes nothing.
-use Rattle.neighbouring.proofs.Counting.{countable_all, counted_all}
-use borrow.Author.Rules.{rules}
+use Rattle.std.proofs.Common.{rules, sym}
+use Rattle.std.proofs.lemmas.List.{length-take-le}
+use Rattle.neighbouring.proofs.Counting.{landed_fits, countable_all, counted_all}
 use Rattle.neighbouring.proofs.across.neighbours_at.Goals as goal
+
+pub slice_bounds-list-end : goal.slice_bounds-list-end
+slice_bounds-list-end c = landed_fits _ _ _ _ c.land-sides.ensures (search rules) (search rules)
+
+pub slice_bounds-count_in-end : goal.slice_bounds-count_in-end
+slice_bounds-count_in-end c =
+    sym (length-take-le _ _ (landed_fits _ _ _ _ c.land-sides.ensures (search rules) (search rules)))
 
 pub count_in-requires : goal.count_in-requires
 count_in-requires c = countable_all _ _ _ _ c.land-sides.ensures (search rules) (search rules)
 
 pub returns : goal.returns
-returns c = search counted_all
+returns c = counted_all _ _ _ _ c.land-sides.ensures (search rules) (search rules) _ c.count_in.ensures

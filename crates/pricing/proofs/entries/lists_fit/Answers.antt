@@ -1,24 +1,20 @@
-use Rattle.std.proofs.Common.{not, ap, rules}
-use Rattle.pricing.proofs.Laws.{lists_bytes, lists_numbers, fitting_start, fitting_entry, fitting_not, fitting_on, fitting_end}
+-- `pricing::entries::lists_fit` meets its contract. Assumes nothing.
+use Rattle.std.proofs.Common.{◌≡◌, true, false, eq-eqb, ne_eqb, refl, sym, ◌∙◌, rules, tests, arith}
+use Rattle.std.proofs.lemmas.Iterator.{cases_from_all, YieldsList-from_range}
+use Rattle.count.proofs.Logic.{true_not_false}
+use Rattle.pricing.specs.Lists.{entry_fits}
+use Rattle.pricing.proofs.Laws.{all_below, lists_each}
+use Rattle.pricing.proofs.entries.lists_fit.Goals.{then-kinds-areas, else-kinds-areas}
 use Rattle.pricing.proofs.entries.lists_fit.Goals as goal
 
-pub returns-then-kinds-areas : goal.returns-then-kinds-areas
-returns-then-kinds-areas c = search lists_bytes
-
 pub returns-then-values-areas : goal.returns-then-values-areas
-returns-then-values-areas c = search lists_numbers
-
-pub loop-i-init : goal.loop-i-init
-loop-i-init c = search fitting_start
-
-pub entry_fits-requires : goal.entry_fits-requires
-entry_fits-requires c = (search fitting_entry, search rules)
-
-pub loop-i-preserved : goal.loop-i-preserved
-loop-i-preserved c = fitting_on _ _ _ _ c.loop-i.invariant c.if-i-areas.false _ c.entry_fits.ensures (ap not c.if-not-entry_fits.false)
-
-pub returns-then-i-areas : goal.returns-then-i-areas
-returns-then-i-areas c = search fitting_end
-
-pub returns-then-not-entry_fits : goal.returns-then-not-entry_fits
-returns-then-not-entry_fits c = search fitting_not
+returns-then-values-areas c =
+    let fits = entry_fits c.args.kinds.now c.args.values.now in
+    let v = c.args.areas in
+    let each = all_below fits v _
+    (cases_from_all _ _ _ (λ i. fits i ≡ true) (λ i. fits i ≡ false) c.all.ensures.ran (YieldsList-from_range 0 v v refl (omega arith))
+    (λ x q k. search (rules, tests)) (λ x q k. search (rules, tests))) in
+    elim c.if-kinds-areas.branch [
+      | then-kinds-areas w ↦ lists_each _ _ v _ (eq-eqb _ v w.if-kinds-areas.true) (sym w.value-is ∙ c.if-values-areas.true) each
+      | else-kinds-areas w ↦ absurd (true_not_false _ (sym w.value-is ∙ c.if-values-areas.true) (ne_eqb _ v w.if-kinds-areas.false))
+    ]

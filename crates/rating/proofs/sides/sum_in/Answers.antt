@@ -1,18 +1,9 @@
-use borrow.Author.Rules.{rules}
-use Rattle.rating.proofs.Summing.{summing_start, count_fits, entry_lent, summing_more, summing_end}
+use Rattle.std.proofs.Common.{arith}
+use Rattle.rating.proofs.Summing.{sum_none, sum_more}
 use Rattle.rating.proofs.sides.sum_in.Goals as goal
 
-pub loop-i-init : goal.loop-i-init
-loop-i-init c = summing_start _ _ _ _ (search rules)
+pub loop-k-init : goal.loop-k-init
+loop-k-init c = (omega arith, search sum_none)
 
-pub factor_in-requires : goal.factor_in-requires
-factor_in-requires c = search entry_lent
-
-pub add-sum-requires : goal.add-sum-requires
-add-sum-requires c = search count_fits
-
-pub loop-i-preserved : goal.loop-i-preserved
-loop-i-preserved c = search summing_more
-
-pub returns : goal.returns
-returns c = search summing_end
+pub loop-k-preserved : goal.loop-k-preserved
+loop-k-preserved c = sum_more _ _ _ _ _ _ _ _ c.loop-k-test.true c.from.ensures c.factor_in.ensures c.add-sum.ensures c.loop-k.invariant

@@ -1,10 +1,7 @@
--- `rating::sides::sum_in` meets its contract. The loop keeps `Summing`. Assumes nothing.
-use Prim.Native.Nat.{◌-◌}
-use Rattle.rating.proofs.Summing.{Summing}
+-- `rating::sides::sum_in` meets its contract. The loop keeps that the factors of the areas before the index are added. Assumes nothing.
+use Rattle.std.proofs.Common.{◌≡◌, ◌≤◌, take}
+use Rattle.tariff.specs.Tariff.{sum_across}
 use Rattle.rating.proofs.sides.sum_in.Given as goal
 
-abbrev pub invariant-loop-i : goal.invariant-loop-i
-invariant-loop-i l = Summing l.list l.sides l.kinds l.values l.i l.sum
-
-abbrev pub decreases-loop-i : goal.decreases-loop-i
-decreases-loop-i l = l.sides - l.i
+abbrev pub invariant-loop-k : goal.invariant-loop-k
+invariant-loop-k l = (l.sum.count ≤ l.k-index) × (l.sum ≡ sum_across l.kinds l.values (take l.k-index l.list))
