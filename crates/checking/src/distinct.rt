@@ -4,8 +4,6 @@ ghost use Rattle.count.specs.Below.{Decides};
 ghost use Rattle.lending.specs.Lists.{Blank, Kept};
 ghost use Rattle.checking.specs.Lent.{Ranged, Differ};
 
-use lending::wide;
-
 // 4: no two entries are equal.
 pub fn is_distinct(turning: &[u16], work: &mut [u16]) -> bool
     requires { Ranged turning.now × Blank (3 * length turning.now) work.old }
@@ -23,14 +21,12 @@ fn flag_entries(turning: &[u16], work: &mut [u16]) -> bool
     ensures decides { Decides result (Differ turning.now) }
     ensures kept { Kept (length turning.now) work.old work.new }
 {
-    let mut i = 0;
-    while i < turning.len() {
-        let h = wide(turning[i]);
+    for &entry in turning {
+        let h = usize::from(entry);
         if work[h] != 0 {
             return false;
         }
         work[h] = 1;
-        i += 1;
     }
     true
 }

@@ -6,7 +6,6 @@ ghost use Rattle.drawing.specs.Drawing.{lent};
 ghost use Rattle.checking.specs.Lent.{Ranged, Binary};
 
 use format::MOST_ENDS;
-use lending::wide;
 
 // 1: the turning list is twice as long as the marks, and at most 4,096 long.
 pub fn lengths_fit(turning: &[u16], marks: &[u8]) -> bool
@@ -24,29 +23,17 @@ pub fn in_range(turning: &[u16], marks: &[u8], start: usize) -> bool
     requires { LengthsFit (lent turning.now marks.now start) }
     ensures { result ≡ in_range (lent turning.now marks.now start) }
 {
-    if larger(turning.len(), 1) <= start {
+    if turning.len().max(1) <= start {
         return false;
     }
-    if entries_fit(turning) {
-        marks_fit(marks)
-    } else {
-        false
-    }
+    entries_fit(turning) && marks_fit(marks)
 }
 
 // 3, of the entries alone: each is below the list's length.
 pub fn entries_fit(turning: &[u16]) -> bool
     ensures { Decides result (Ranged turning.now) }
 {
-    let ends = turning.len();
-    let mut h = 0;
-    while h < ends {
-        if ends <= wide(turning[h]) {
-            return false;
-        }
-        h += 1;
-    }
-    true
+    turning.iter().all(|&h| usize::from(h) < turning.len())
 }
 
 // How many borders are marked.
@@ -54,33 +41,12 @@ pub fn count_marks(marks: &[u8]) -> usize
     ensures by_index { (ts : List ℕ) (s : ℕ) → result ≡ mark_count (lent ts marks.now s) }
     ensures upper_bound { result ≤ length marks.now }
 {
-    let mut e = 0;
-    let mut marked: usize = 0;
-    while e < marks.len() {
-        if marks[e] == 1 {
-            marked += 1;
-        }
-        e += 1;
-    }
-    marked
+    marks.iter().filter(|&&m| m == 1).count()
 }
 
 // Whether every mark is 0 or 1.
 fn marks_fit(marks: &[u8]) -> bool
     ensures { Decides result (Binary marks.now) }
 {
-    let mut e = 0;
-    while e < marks.len() {
-        if 1 < marks[e] {
-            return false;
-        }
-        e += 1;
-    }
-    true
-}
-
-fn larger(a: usize, b: usize) -> usize
-    ensures { result ≡ max a b }
-{
-    if a < b { b } else { a }
+    marks.iter().all(|&m| m <= 1)
 }

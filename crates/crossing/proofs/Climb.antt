@@ -1,14 +1,13 @@
--- What is read from the stack: a border on it, the one above, and the pair that is answered.
+-- What is read from the stack: a border on it, and the one above.
 --
--- pair_below, pair_not  == the smaller number first
 -- opened_is             == a border that stands on the stack
 -- Climbing places k e w i    == border e stands on the stack of k, no lower than place i
 -- above_..              == the way up to a border on the stack
 -- Assumes nothing.
 use mathlib.Core.Path.{◌≡◌, sym, ap, ◌∙◌}
 use mathlib.Core.Logic.{inl, inr}
-use mathlib.Core.List.{List, [], ◌∷◌}
-use Prim.Native.Nat.{ℕ, ◌+◌, ◌-◌, ◌*◌, ◌<◌, ◌≤◌, min, max}
+use mathlib.Core.List.{List}
+use Prim.Native.Nat.{ℕ, ◌+◌, ◌-◌, ◌*◌, ◌<◌, ◌≤◌}
 use native.Mathlib.Omega.{arith}
 use borrow.Author.Rules.{rules}
 use lib.ListN.{length, get_or}
@@ -16,23 +15,7 @@ use mir.Syntax.{w64}
 use mir.Val.{Fits}
 use Rattle.count.proofs.Logic.{same_or_not}
 use Rattle.touring.specs.Working.{border_in}
-use Rattle.drawing.specs.Checks.{smaller_first}
 use Rattle.crossing.specs.Finding.{Stands, Above, place_in}
-
--- ---- pair
-pub pair_below : (a b : ℕ) → a < b → a ∷ b ∷ [] ≡ smaller_first a b
-pair_below a b l =
-    let x : a ≡ min a b = omega arith in
-    let y : b ≡ max a b = omega arith in
-    rw (← x, ← y)
-
-pub pair_not : (a b : ℕ) → b ≤ a → b ∷ a ∷ [] ≡ smaller_first a b
-pair_not a b l =
-    let x : b ≡ min a b = omega arith in
-    let y : a ≡ max a b = omega arith in
-    rw (← x, ← y)
-
-pub ruleset pair_all = (pair_below, pair_not, rules)
 
 -- ---- opened
 pub opened_is : (w : List ℕ) (i x r : ℕ) → x ≡ get_or w i 0 → r ≡ border_in w x → r ≡ border_in w (get_or w i 0)

@@ -6,8 +6,9 @@
 use mathlib.Core.Path.{◌≡◌, refl, sym, ap, ◌∙◌}
 use mathlib.Core.Logic.{◌≢◌, inl, inr}
 use mathlib.Core.Bool.{Bool, true}
-use mathlib.Core.List.{List, []}
-use Prim.Native.Nat.{ℕ, ◌+◌, ◌-◌, ◌*◌, ◌<◌, ◌≤◌}
+use mathlib.Core.List.{List, [], ◌∷◌}
+use Rattle.std.specs.Prelude.{Some}
+use Prim.Native.Nat.{ℕ, ◌+◌, ◌-◌, ◌*◌, ◌<◌, ◌≤◌, min, max}
 use native.Mathlib.Omega.{arith}
 use borrow.Author.Rules.{rules}
 use borrow.Author.Tests.{eq-eqb, eqb-true}
@@ -25,7 +26,6 @@ use Rattle.drawing.proofs.Ends.{border_below}
 use Rattle.drawing.proofs.Crossing.{Lowest, crosses_none, crossing_in_is, crossing_in_none}
 use Rattle.lending.specs.Lists.{Outside}
 use Rattle.lending.proofs.Outside.{outside_none, outside_set}
-use Rattle.crossing.specs.declared.find.Found.{Found}
 use Rattle.touring.specs.Working.{Charted, tour_in, border_in, met}
 use Rattle.crossing.specs.Finding.{found_means, chart_tour, Stands, Above, place_in}
 use Rattle.crossing.proofs.Nests.{Stacked, stacked_start, stacked_skip, stacked_push, stacked_pop, stacked_none, stacked_there, stacked_lowest}
@@ -196,16 +196,16 @@ module _ (ms old : List ℕ) (C : Charted (double ms) old) where
                       is_there = at_i;
                     }
 
-                pub nesting_found : (a : ℕ) → Above places k e w a → (x : Found) → found_means x ≡ smaller_first e a
-                    → found_means x ≡ crossing_in (chart_tour ms old)
-                nesting_found a A x f =
+                pub nesting_found : (a : ℕ) → Above places k e w a → (x y : ℕ) → x ≡ min e a → y ≡ max e a
+                    → found_means (Some (x, y)) ≡ crossing_in (chart_tour ms old)
+                nesting_found a A x z f g =
                     let bj : A.j < k = omega (arith, A.not_top) in
                     let y : ℕ = place_in places w (A.j + 1) in
                     let up : a ≡ border (tour_in old y) = A.next ∙ same_border (A.j + 1) A.not_top in
                     let L : Lowest (chart_tour ms old) p y
                     = stacked_lowest ms places (tour_in old) C.once p k (place_in places w) N.stack l unmarked_here refl
                     A.j A.not_top (sym (same_border A.j bj) ∙ A.is_there ∙ is_border) in
-                    f
+                    ap (λ b. b ∷ z ∷ []) f ∙ ap (λ b. min e a ∷ b ∷ []) g
                     ∙ ap (λ x. smaller_first x a) is_border
                     ∙ ap (λ x. smaller_first (border (tour_in old p)) x) up
                     ∙ sym (crossing_in_is (chart_tour ms old) p y L)

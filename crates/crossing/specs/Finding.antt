@@ -1,22 +1,20 @@
 -- What looking for a crossing finds, and what stands on its stack.
 --
--- found_means f         == the two borders that the case f has, or none
+-- found_means f         == the two borders that f has, or none
 -- border_tour ms places t == the borders along the ends t, as the search for the first crossing reads them; ms are the marks
 -- chart_tour ms w         == those along the tour that stands in the working list w
 -- place_in places w i   == the place at i on the stack that is the last third of w
 -- Stands places k e w  == the stack holds k places, and border e is on it, not on top
 -- Above places k e w r == r is the border directly above e on it
 -- Assumes nothing.
-use Rattle.std.specs.Prelude.{◌≡◌, not, ◌&&◌, List, [], ◌∷◌, ℕ, ◌+◌, ◌*◌, ◌<◌, ◌≤◌, eqb, ltb, length, get_or}
+use Rattle.std.specs.Prelude.{◌≡◌, Option, Some, None, not, ◌&&◌, List, [], ◌∷◌, ℕ, ◌+◌, ◌*◌, ◌<◌, ◌≤◌, eqb, ltb, length, get_or}
 use Rattle.drawing.specs.Drawing.{border}
 use Rattle.drawing.specs.Checks.{Tour}
-use Rattle.crossing.specs.declared.find.Found.{Found}
-use Rattle.crossing.specs.declared.find.Found.TheVariants as the_case
 use Rattle.touring.specs.Working.{tour_in, border_in}
 
-abbrev pub found_means : Found → List ℕ
-found_means (the_case.Pair a b) = a ∷ b ∷ []
-found_means the_case.Nothing = []
+abbrev pub found_means : Option (ℕ × ℕ) → List ℕ
+found_means (Some (a, b)) = a ∷ b ∷ []
+found_means None = []
 
 abbrev pub border_tour : List ℕ → ℕ → (ℕ → ℕ) → Tour
 border_tour ms places t =

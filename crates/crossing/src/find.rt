@@ -1,21 +1,14 @@
 // Check 7: the first two unmarked borders that alternate in the tour.
 ghost use Rattle.std.specs.Prelude.{◌≡◌, ◌+◌, ◌*◌, ◌<◌, length, get_or};
-ghost use Rattle.drawing.specs.Checks.{smaller_first, crossing_in};
+ghost use Rattle.drawing.specs.Checks.{crossing_in};
 ghost use Rattle.lending.specs.Lists.{Outside, Zeroed};
 ghost use Rattle.touring.specs.Working.{Charted, border_in};
 ghost use Rattle.crossing.specs.Finding.{found_means, chart_tour, Stands, Above};
 
-use lending::wide;
 use touring::border_in;
 
-#[derive(Drop)]
-pub enum Found {
-    Pair(usize, usize),
-    Nothing,
-}
-
-// The first pair of unmarked borders that alternate in the tour, or that there is none. The last third of the list is left 0.
-pub fn find_crossing(marks: &[u8], work: &mut [u16]) -> Found
+// The first pair of unmarked borders that alternate in the tour, the smaller first; none where no two do. The last third of the list is left 0.
+pub fn find_crossing(marks: &[u8], work: &mut [u16]) -> Option<(usize, usize)>
     requires { Charted (2 * length marks.now) work.old }
     ensures result_value { found_means result ≡ crossing_in (chart_tour marks.now work.old) }
     ensures zeroed { Zeroed (2 * (2 * length marks.now)) (3 * (2 * length marks.now))
@@ -30,16 +23,15 @@ pub fn find_crossing(marks: &[u8], work: &mut [u16]) -> Found
 // Follows the tour. The last third is a stack: the first places of the unmarked borders that are open. At the first border
 // that closes and is not on top, that border is the a of the first pair a, b, a, b, and the one directly above it is the b:
 // all those above it are open, and it was met first of them.
-fn follow(marks: &[u8], work: &mut [u16]) -> Found
+fn follow(marks: &[u8], work: &mut [u16]) -> Option<(usize, usize)>
     requires { Charted (2 * length marks.now) work.old }
     ensures result_value { found_means result ≡ crossing_in (chart_tour marks.now work.old) }
     ensures outside { Outside (2 * (2 * length marks.now)) (3 * (2 * length marks.now))
         work.old work.new }
 {
     let places = 2 * marks.len();
-    let mut p = 0;
     let mut k: usize = 0;
-    while p < places {
+    for p in 0..places {
         let e = border_in(work, p);
         if marks[e] != 1 {
             if work[places + p] == 0 {
@@ -47,14 +39,14 @@ fn follow(marks: &[u8], work: &mut [u16]) -> Found
                 k += 1;
             } else {
                 if opened(work, places, k - 1) != e {
-                    return pair(e, above(work, places, k, e));
+                    let b = above(work, places, k, e);
+                    return Some((e.min(b), e.max(b)));
                 }
                 k -= 1;
             }
         }
-        p += 1;
     }
-    Found::Nothing
+    None
 }
 
 // The border that stands at i on the stack.
@@ -63,10 +55,10 @@ fn opened(work: &[u16], places: usize, i: usize) -> usize
         × (get_or work.now (2 * places + i) 0 < length work.now) }
     ensures { result ≡ border_in work.now (get_or work.now (2 * places + i) 0) }
 {
-    border_in(work, wide(work[2 * places + i]))
+    border_in(work, usize::from(work[2 * places + i]))
 }
 
-// The border directly above border e on the stack of k.
+// The border directly above border e on the stack of k. That e stands there is known: an iterator's search would answer an Option.
 fn above(work: &[u16], places: usize, k: usize, e: usize) -> usize
     requires { Stands places k e work.now }
     ensures { Above places k e work.now result }
@@ -76,15 +68,4 @@ fn above(work: &[u16], places: usize, k: usize, e: usize) -> usize
         i += 1;
     }
     opened(work, places, i + 1)
-}
-
-// The two borders, the smaller first.
-fn pair(a: usize, b: usize) -> Found
-    ensures { found_means result ≡ smaller_first a b }
-{
-    if a < b {
-        Found::Pair(a, b)
-    } else {
-        Found::Pair(b, a)
-    }
 }

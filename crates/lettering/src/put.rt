@@ -11,53 +11,57 @@ use bits::bytes_for;
 use format::{AT_AREAS, AT_M, AT_N, HEADER};
 use lending::zero;
 
-// Where B and B* begin, and where the map ends.
-#[derive(Drop)]
-pub struct Strings {
+// A map on the way: at which bytes B and B* begin and the map ends, the position of the next letter, and how many letters before
+// it are round.
+#[derive(Clone, Copy)]
+pub struct Letters {
     pub b: usize,
     pub c: usize,
     pub end: usize,
+    pub p: usize,
+    pub rounds: usize,
 }
 
 // Begins a map of m borders and n points: zeros, and the header.
-pub fn begin_map(out: &mut [u8], m: usize, n: usize) -> Strings
+pub fn begin_map(out: &mut [u8], m: usize, n: usize) -> Letters
     requires { (longest ≤ length out.old) × (m ≤ most_borders) × (1 ≤ n) × (n ≤ m + 1) }
     ensures out_after { out.new ≡ begun (record { m = m; n = n }) out.old }
     ensures b_value { (result.b ≡ start_b round (record { m = m; n = n })) × (result.c ≡ start_b square (record { m = m; n = n }))
         × (result.end ≡ map_length (record { m = m; n = n })) }
+    ensures at_first { (result.p ≡ 0) × (result.rounds ≡ 0) }
 {
     let b = HEADER + bytes_for(2 * m);
     let c = b + bytes_for(2 * n - 2);
     let end = c + bytes_for(2 * (m + 1 - n));
     zero(out, end);
     write_header(out, m, n);
-    Strings {
-        b: b,
-        c: c,
-        end: end,
+    Letters {
+        b,
+        c,
+        end,
+        p: 0,
+        rounds: 0,
     }
 }
 
-// Puts the letter at position p, after so many round ones: its family to A, whether it closes to B or B*, which begin at bytes b
-// and c. How many are round with it. What is written where is chosen by numbers and not by a jump, which random families would
-// make slow.
-pub fn put_letter(
-    out: &mut [u8],
-    b: usize,
-    c: usize,
-    p: usize,
-    rounds: usize,
-    marked: bool,
-    closing: bool,
-) -> usize
-    requires { (b ≤ longest) × (c ≤ longest) × (p < most_ends) × (rounds ≤ p) }
-    ensures out_after { out.new ≡ with_letter out.old b c p rounds marked closing }
-    ensures value { result ≡ pick marked (rounds + 1) rounds }
-{
-    bits::set_bit(out, 8 * HEADER + p, marked);
-    let at = chosen(marked, 8 * b + rounds, 8 * c + (p - rounds));
-    bits::set_bit(out, at, closing);
-    chosen(marked, rounds + 1, rounds)
+impl Letters {
+    // Puts the next letter: its family to A, whether it closes to B or B*. What is written where is chosen by numbers and not by a
+    // jump, which random families would make slow.
+    pub fn put_letter(&mut self, out: &mut [u8], marked: bool, closing: bool)
+        requires { (self.old.b ≤ longest) × (self.old.c ≤ longest) × (self.old.p < most_ends) × (self.old.rounds ≤ self.old.p) }
+        ensures out_after { out.new ≡ with_letter out.old self.old.b self.old.c self.old.p self.old.rounds marked closing }
+        ensures value { self.new ≡ record self.old { p = self.old.p + 1; rounds = pick marked (self.old.rounds + 1) self.old.rounds } }
+    {
+        bits::set_bit(out, 8 * HEADER + self.p, marked);
+        let at = chosen(
+            marked,
+            8 * self.b + self.rounds,
+            8 * self.c + (self.p - self.rounds),
+        );
+        bits::set_bit(out, at, closing);
+        self.rounds = chosen(marked, self.rounds + 1, self.rounds);
+        self.p += 1;
+    }
 }
 
 // The header: m, n and the count of areas.

@@ -13,8 +13,9 @@ use Prim.Native.Nat.{ℕ, ◌<◌, ◌≤◌}
 use native.Mathlib.Omega.{arith}
 use borrow.Author.Tests.{le-ltb}
 use lib.ListN.{length, get_or}
+use Rattle.std.specs.Prelude.{Option, Some, None, is_some, unwrap_or}
 use Rattle.count.specs.Below.{Decides, pick}
-use Rattle.count.proofs.Logic.{true_or_false, pick_yes, pick_no}
+use Rattle.count.proofs.Logic.{true_or_false, true_not_false, pick_yes, pick_no}
 use Rattle.answers.specs.Answer.{answer, refused_with, refused, told, Kind}
 use Rattle.answers.specs.Lent.{laid, leaves}
 use Rattle.answers.specs.Means.{packed_means}
@@ -22,7 +23,6 @@ use Rattle.drawing.specs.Drawing.{Drawing, cells, lent}
 use Rattle.drawing.specs.Checks.{LengthsFit, InRange, PassesSix, distinct, joined, few_marks, crosses, first_crossing, tour_of, crossing_in, mark_count}
 use Rattle.drawing.proofs.Checks.{distinct_decides, few_decides}
 use Rattle.drawing.proofs.Labels.{joined_decides}
-use Rattle.drawing.proofs.Cells.{cells_some}
 use Rattle.drawing.proofs.Crossing.{crossing_in_same, no_crossing, some_crossing}
 use Rattle.drawing.proofs.Ends.{turn_permutes}
 use Rattle.answers.specs.Checks.{check_at}
@@ -33,8 +33,6 @@ use Rattle.checking.specs.Lent.{Ranged, Differ, Turns}
 use Rattle.checking.proofs.Decided.{passes, fails}
 use Rattle.checking.proofs.Laws.{ranged_from, turns_from, distinct_is}
 use Rattle.answers.specs.declared.cases.Packed.TheVariants as the_case
-use Rattle.crossing.specs.declared.find.Found.{Found}
-use Rattle.crossing.specs.declared.find.Found.TheVariants as the_found
 use Rattle.crossing.specs.Finding.{found_means, chart_tour}
 use Rattle.writing.specs.Writing.{chart_bytes}
 use Rattle.packing.proofs.Charting.{Chart, chart_bytes_lem, chart_alike}
@@ -73,28 +71,27 @@ module _ (ts ms : List ℕ) (s : ℕ) (F : LengthsFit (lent ts ms s)) (I : InRan
       pub checked_turns : Turns ts
       checked_turns = turns_from ts ms s F.half I.entries ((distinct_decides D).sound differ)
 
-      module _ (n : ℕ) (N : (s : ℕ) → n ≡ pick (joined (lent ts ms s)) (cells (lent ts ms s) Kind.point) 0) where
-        -- there is a point in any case
-        joins_not : n ≡ 0 → joined D ≡ false
+      module _ (x : Option ℕ) (N : (s : ℕ) → x ≡ pick (joined (lent ts ms s)) (Some (cells (lent ts ms s) Kind.point)) None) where
+        joins_not : x ≡ None → joined D ≡ false
         joins_not z =
             elim (true_or_false (joined D)) [
-              | inl t ↦ absurd (omega (arith, N s ∙ pick_yes (joined D) (cells D Kind.point) 0 t, cells_some D Kind.point))
+              | inl t ↦ absurd (true_not_false (is_some x) (ap is_some (N s ∙ pick_yes (joined D) (Some (cells D Kind.point)) None t)) (ap is_some z))
               | inr f ↦ f
             ]
 
-        pub checked_5 : n ≡ 0 → (old : List ℕ) → PacksLater (lent ts ms s) (packed_means (the_case.Declined 5)) old old
+        pub checked_5 : x ≡ None → (old : List ℕ) → PacksLater (lent ts ms s) (packed_means (the_case.Declined 5)) old old
         checked_5 z old = declines D 1 5 old (differ, tt) (joins_not z) refl refl
 
-        module _ (k : n ≡ 0 → ⊥) (m : ℕ) (M : (ts : List ℕ) (s : ℕ) → m ≡ mark_count (lent ts ms s)) where
+        module _ (n : ℕ) (k : x ≡ Some n) (m : ℕ) (M : (ts : List ℕ) (s : ℕ) → m ≡ mark_count (lent ts ms s)) where
           joins : joined D ≡ true
           joins =
               elim (true_or_false (joined D)) [
                 | inl t ↦ t
-                | inr f ↦ absurd (k (N s ∙ pick_no (joined D) (cells D Kind.point) 0 f))
+                | inr f ↦ absurd (true_not_false (is_some x) (ap is_some k) (ap is_some (N s ∙ pick_no (joined D) (Some (cells D Kind.point)) None f)))
               ]
 
           pub checked_points : n ≡ cells (lent ts ms s) Kind.point
-          checked_points = N s ∙ pick_yes (joined D) (cells D Kind.point) 0 joins
+          checked_points = ap (λ o. unwrap_or o 0) (sym k ∙ N s ∙ pick_yes (joined D) (Some (cells D Kind.point)) None joins)
 
           pub checked_6 : n ≤ m → (old : List ℕ) → PacksLater (lent ts ms s) (packed_means (the_case.Declined 6)) old old
           unfolding few_marks
@@ -128,11 +125,11 @@ module _ (ts ms : List ℕ) (s : ℕ) (six : PassesSix (lent ts ms s)) where
 
   module _ (w : List ℕ) (C : Chart (lent ts ms s) w) where
     -- the tour in the working list is the drawing's
-    found_is : (x : Found) → found_means x ≡ crossing_in (chart_tour ms w) → found_means x ≡ first_crossing (lent ts ms s)
+    found_is : (x : Option (ℕ × ℕ)) → found_means x ≡ crossing_in (chart_tour ms w) → found_means x ≡ first_crossing (lent ts ms s)
     unfolding first_crossing
     found_is x Y = Y ∙ crossing_in_same (chart_tour ms w) (tour_of G) (chart_alike ts ms s six w C)
 
-    pub finish_pair : (x : Found) → found_means x ≡ crossing_in (chart_tour ms w) → (a b : ℕ) → x ≡ the_found.Pair a b
+    pub finish_pair : (x : Option (ℕ × ℕ)) → found_means x ≡ crossing_in (chart_tour ms w) → (a b : ℕ) → x ≡ Some (a, b)
         → (old : List ℕ) → PacksLater (lent ts ms s) (packed_means (the_case.Crossing a b)) old old
     unfolding later_of leaves
     finish_pair x Y a b f old =
@@ -146,7 +143,7 @@ module _ (ts ms : List ℕ) (s : ℕ) (six : PassesSix (lent ts ms s)) where
         = sym (refuses_at (later_checks G) (answer (packed_bytes G)) 3 (four, (five, (few, tt))) (ap not t)) ∙ ap (refused_with 7) (sym is) in
         record { answers = sym (ap (told length) e); output = sym (ap (λ x. leaves laid x old) e) }
 
-    pub finish_none : (x : Found) → found_means x ≡ crossing_in (chart_tour ms w) → x ≡ the_found.Nothing → (n : ℕ) → n ≡ cells (lent ts ms s) Kind.point
+    pub finish_none : (x : Option (ℕ × ℕ)) → found_means x ≡ crossing_in (chart_tour ms w) → x ≡ None → (n : ℕ) → n ≡ cells (lent ts ms s) Kind.point
         → (v : List ℕ) → Chart (lent ts ms s) v → (r : ℕ) (old new : List ℕ)
         → r ≡ length (chart_bytes n ms v) → new ≡ laid (chart_bytes n ms v) old
         → PacksLater (lent ts ms s) (packed_means (the_case.Length r)) old new

@@ -10,7 +10,6 @@ ghost use Rattle.lending.specs.Lists.{Blank, Kept};
 ghost use Rattle.packing.specs.Later.{PacksLater};
 
 use answers::Packed;
-use crossing::Found;
 use format::LONGEST;
 
 // Packs a drawing into `out`. Where a check declines, `out` stays as it was.
@@ -50,10 +49,9 @@ fn checked(turning: &[u16], marks: &[u8], start: usize, work: &mut [u16], out: &
     if !checking::is_distinct(turning, work) {
         return Packed::Declined(4);
     }
-    let n = reaching::joined_points(turning, marks, work);
-    if n == 0 {
+    let Some(n) = reaching::joined_points(turning, marks, work) else {
         return Packed::Declined(5);
-    }
+    };
     if n <= checking::count_marks(marks) {
         return Packed::Declined(6);
     }
@@ -80,7 +78,7 @@ fn finish(
     touring::tour(turning, marks, start, work);
     touring::seconds(work, 2 * marks.len());
     match crossing::find_crossing(marks, work) {
-        Found::Pair(a, b) => Packed::Crossing(a, b),
-        Found::Nothing => Packed::Length(writing::write_map(marks, n, work, out)),
+        Some((a, b)) => Packed::Crossing(a, b),
+        None => Packed::Length(writing::write_map(marks, n, work, out)),
     }
 }

@@ -1,11 +1,11 @@
 -- What the search tells of a drawing: whether the marked borders join all points, or all borders do, and the marks of a tree.
 --
 -- spread_tells     == whether the borders of a set join all points
--- points_not, points_are == n if the marked borders join all points, else 0
+-- points_not, points_are == n if the marked borders join all points, else none
 -- tree_noted       == no marks were lent: all borders were searched, and what is noted holds whatever marks the drawing has
 -- tree_not, tree_found == no tree is written, or the one noted
 -- Assumes nothing.
-use mathlib.Core.Path.{◌≡◌, sym, ◌∙◌}
+use mathlib.Core.Path.{◌≡◌, sym, ap, ◌∙◌}
 use mathlib.Core.Bool.{Bool, true, false}
 use mathlib.Core.List.{List}
 use Prim.Native.Nat.{ℕ, ◌*◌, ◌<◌}
@@ -13,6 +13,7 @@ use native.Mathlib.Omega.{arith}
 use borrow.Author.Tests.{eq-eqb, ne_eqb, eqb-true}
 use lib.Dec.{eqb}
 use lib.ListN.{length}
+use Rattle.std.specs.Prelude.{Some, None}
 use Rattle.count.specs.Below.{pick, table}
 use Rattle.count.proofs.Decides.{decides_as}
 use Rattle.count.proofs.Logic.{pick_yes, pick_no, true_not_false}
@@ -46,14 +47,14 @@ module _ (ts ms : List ℕ) (P : Turns ts) (half : length ts ≡ 2 * length ms) 
   joined_is =
       spread_tells ts ms s P half (allowed ms) (is_marked (lent ts ms s)) (λ e b. sym (allowed_has ms e b)) w k n (X ms s half)
 
-  pub points_not : (k ≡ length ts → ⊥) → 0 ≡ pick (joined (lent ts ms s)) (cells (lent ts ms s) Kind.point) 0
+  pub points_not : (k ≡ length ts → ⊥) → None ≡ pick (joined (lent ts ms s)) (Some (cells (lent ts ms s) Kind.point)) None
   points_not d =
-      sym (pick_no (joined (lent ts ms s)) (cells (lent ts ms s) Kind.point) 0 (sym joined_is ∙ ne_eqb k (length ts) d))
+      sym (pick_no (joined (lent ts ms s)) (Some (cells (lent ts ms s) Kind.point)) None (sym joined_is ∙ ne_eqb k (length ts) d))
 
-  pub points_are : k ≡ length ts → n ≡ pick (joined (lent ts ms s)) (cells (lent ts ms s) Kind.point) 0
+  pub points_are : k ≡ length ts → Some n ≡ pick (joined (lent ts ms s)) (Some (cells (lent ts ms s) Kind.point)) None
   points_are e =
-      (X ms s half).points e
-      ∙ sym (pick_yes (joined (lent ts ms s)) (cells (lent ts ms s) Kind.point) 0 (sym joined_is ∙ eq-eqb k (length ts) e))
+      ap Some ((X ms s half).points e)
+      ∙ sym (pick_yes (joined (lent ts ms s)) (Some (cells (lent ts ms s) Kind.point)) None (sym joined_is ∙ eq-eqb k (length ts) e))
 
 -- no marks were lent
 pub tree_noted : (ts none : List ℕ) → Turns ts → (w : List ℕ) (k n : ℕ)

@@ -1,7 +1,7 @@
 // Which ends are reached from end 0 by turning about points and crossing the borders of a set: one search for check 5, for the
 // number of points and for the marks of a spanning tree. Linear in the number of borders.
 //
-//     joined_points   5 and 6: n, the number of points, if the marked borders join them all; else 0
+//     joined_points   5 and 6: n, the number of points, if the marked borders join them all
 //     find_tree       21: whether all borders join all points; if they do, the marks of a spanning tree
 //
 // Conventions. A drawing is lent as its turning list and its marks; in a contract it is `lent`, with any start. Both ask

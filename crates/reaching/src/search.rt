@@ -10,7 +10,7 @@ ghost use Rattle.reaching.specs.Reaching.{allowed, borders_of, Reached, Crossed,
 use checking::other;
 
 // How many ends are reached, and how many points.
-#[derive(Drop)]
+#[derive(Clone, Copy)]
 pub struct Reach {
     pub ends: usize,
     pub points: usize,
@@ -30,57 +30,41 @@ pub fn spread(turning: &[u16], marks: &[u8], work: &mut [u16]) -> Reach
     if ends == 0 {
         return Reach { ends: 0, points: 1 };
     }
-    let mut tail = gather(turning, work, 0, 0);
-    let mut points: usize = 1;
+    let mut reached = Reach {
+        ends: gather(turning, work, 0, 0),
+        points: 1,
+    };
     let mut head = 0;
-    while head < tail {
+    while head < reached.ends {
         let h = work[ends + head];
-        let reached = cross(turning, marks, work, tail, points, h);
-        tail = reached.ends;
-        points = reached.points;
+        reached = cross(turning, marks, work, reached, h);
         head += 1;
     }
-    Reach {
-        ends: tail,
-        points: points,
-    }
+    reached
 }
 
 // Looks across the border of end h. If that leads to a point that was not reached before, its ends are queued.
-fn cross(
-    turning: &[u16],
-    marks: &[u8],
-    work: &mut [u16],
-    tail: usize,
-    points: usize,
-    h: u16,
-) -> Reach
+fn cross(turning: &[u16], marks: &[u8], work: &mut [u16], reached: Reach, h: u16) -> Reach
     requires { Turns turning.now
         × (length turning.now ≡ 2 * borders_of turning.now)
         × (h < length turning.now)
         × IsFlagged work.old h
-        × Reached turning.now (borders_of turning.now) (allowed marks.now) work.old tail points }
+        × Reached turning.now (borders_of turning.now) (allowed marks.now) work.old reached.ends reached.points }
     ensures { Crossed turning.now (borders_of turning.now) (allowed marks.now) h
-        work.old tail work.new result.ends result.points }
+        work.old reached.ends work.new result.ends result.points }
 {
-    let e = h as usize / 2;
+    let e = usize::from(h) / 2;
     if !may_cross(marks, e) {
-        return Reach {
-            ends: tail,
-            points: points,
-        };
+        return reached;
     }
     let beyond = other(h);
-    if work[beyond as usize] != 0 {
-        return Reach {
-            ends: tail,
-            points: points,
-        };
+    if work[usize::from(beyond)] != 0 {
+        return reached;
     }
     work[2 * turning.len() + e] = 1;
     Reach {
-        ends: gather(turning, work, tail, beyond),
-        points: points + 1,
+        ends: gather(turning, work, reached.ends, beyond),
+        points: reached.points + 1,
     }
 }
 
@@ -88,10 +72,7 @@ fn cross(
 fn may_cross(marks: &[u8], e: usize) -> bool
     ensures { result ≡ allowed marks.now e }
 {
-    if e >= marks.len() {
-        return true;
-    }
-    marks[e] == 1
+    e >= marks.len() || marks[e] == 1
 }
 
 // Flags and queues the ends of h's point, unless they are flagged already. The new length of the queue.
@@ -105,8 +86,8 @@ fn gather(turning: &[u16], work: &mut [u16], tail: usize, h: u16) -> usize
     let ends = turning.len();
     let mut end = tail;
     let mut at = h;
-    while work[at as usize] == 0 {
-        let i = at as usize;
+    while work[usize::from(at)] == 0 {
+        let i = usize::from(at);
         work[i] = 1;
         work[ends + end] = at;
         end += 1;

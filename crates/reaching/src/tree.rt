@@ -1,6 +1,6 @@
 // What the search tells: whether the marked borders join all points, and how many points there are; whether all borders do, and
 // the marks of a tree. For the second it is lent no marks.
-ghost use Rattle.std.specs.Prelude.{◌≡◌, List, ℕ, ◌+◌, ◌*◌, length, get_or};
+ghost use Rattle.std.specs.Prelude.{◌≡◌, List, ℕ, ◌+◌, ◌*◌, length, get_or, Some, None};
 ghost use Rattle.count.specs.Below.{pick, table};
 ghost use Rattle.answers.specs.Answer.{Kind};
 ghost use Rattle.drawing.specs.Drawing.{cells, lent};
@@ -11,22 +11,23 @@ ghost use Rattle.reaching.specs.Reaching.{borders_of, MarksAt, NotesTree, FindsT
 
 use crate::search::spread;
 
-// 5 and 6: how many points there are if the marked borders join them all, else 0.
-pub fn joined_points(turning: &[u16], marks: &[u8], work: &mut [u16]) -> usize
+// 5 and 6: how many points there are if the marked borders join them all.
+pub fn joined_points(turning: &[u16], marks: &[u8], work: &mut [u16]) -> Option<usize>
     requires { Turns turning.now
         × (length turning.now ≡ 2 * length marks.now)
         × Blank (3 * length turning.now) work.old }
     ensures by_index { (s : ℕ) → result ≡ pick (joined (lent turning.now marks.now s))
-        (cells (lent turning.now marks.now s) Kind.point) 0 }
+        (Some (cells (lent turning.now marks.now s) Kind.point)) None }
     ensures work_unchanged { work.new ≡ work.old }
 {
     let ends = turning.len();
     let reached = spread(turning, marks, work);
     lending::clear(work, 3 * ends);
-    if reached.ends != ends {
-        return 0;
+    if reached.ends == ends {
+        Some(reached.points)
+    } else {
+        None
     }
-    reached.points
 }
 
 // 21: whether all borders join all points. If they do, the marks become those of a spanning tree; they are not read.
@@ -65,9 +66,7 @@ fn write_marks(work: &[u16], from: usize, marks: &mut [u8])
     requires { MarksAt work.now from (length marks.old) }
     ensures { marks.new ≡ table (λ e. get_or work.now (from + e) 0) (length marks.old) }
 {
-    let mut e = 0;
-    while e < marks.len() {
-        marks[e] = work[from + e] as u8;
-        e += 1;
+    for (e, mark) in marks.iter_mut().enumerate() {
+        *mark = work[from + e] as u8;
     }
 }

@@ -16,11 +16,9 @@ pub fn tour(turning: &[u16], marks: &[u8], start: usize, work: &mut [u16])
     ensures outside { Outside 0 (length turning.now) work.old work.new }
 {
     let mut h = start as u16;
-    let mut p = 0;
-    while p < turning.len() {
+    for p in 0..turning.len() {
         work[p] = h;
-        h = turning[crossed(marks, h) as usize];
-        p += 1;
+        h = turning[usize::from(crossed(marks, h))];
     }
 }
 
@@ -30,12 +28,10 @@ pub fn seconds(work: &mut [u16], places: usize)
     requires { Clean places work.old }
     ensures { Noted places work.old work.new }
 {
-    let mut p = 0;
-    while p < places {
+    for p in 0..places {
         let e = border_in(work, p);
         work[places + p] = work[2 * places + e];
         work[2 * places + e] = 1;
-        p += 1;
     }
 }
 
@@ -45,7 +41,7 @@ fn crossed(marks: &[u8], h: u16) -> u16
     ensures { ((ts : List ℕ) (s : ℕ) → result ≡ over (is_marked (lent ts marks.now s)) h)
         × (result < 2 * length marks.now) }
 {
-    if marks[h as usize / 2] == 1 {
+    if marks[usize::from(h) / 2] == 1 {
         checking::other(h)
     } else {
         h

@@ -2,12 +2,10 @@
 ghost use Rattle.std.specs.Prelude.{◌≡◌, ◌<◌, ◌/◌, length};
 ghost use Rattle.touring.specs.Working.{border_in};
 
-use lending::wide;
-
 // The border of the end that stands at position p.
 pub fn border_in(work: &[u16], p: usize) -> usize
     requires { p < length work.now }
     ensures { result ≡ border_in work.now p }
 {
-    wide(work[p]) / 2
+    usize::from(work[p]) / 2
 }

@@ -6,7 +6,7 @@ ghost use Rattle.words.specs.declared.family.Family.TheVariants.{Round as round}
 ghost use Rattle.format.specs.Bytes.{longest};
 ghost use Rattle.writing.specs.Writing.{word_at, chart_bytes, Legible, Sized};
 
-use lettering::{begin_map, put_letter};
+use lettering::begin_map;
 use touring::border_in;
 
 // Writes the map of the chart in `work`, with n points, in one pass over the positions. Its length.
@@ -16,17 +16,11 @@ pub fn write_map(marks: &[u8], n: usize, work: &[u16], out: &mut [u8]) -> usize
     ensures out_after { out.new ≡ laid (chart_bytes n marks.now work.now) out.old }
 {
     let m = marks.len();
-    let at = begin_map(out, m, n);
-    let b = at.b;
-    let c = at.c;
-    let mut p = 0;
-    let mut rounds = 0;
-    while p < 2 * m {
-        let marked = is_round(marks, work, p);
-        rounds = put_letter(out, b, c, p, rounds, marked, work[2 * m + p] == 1);
-        p += 1;
+    let mut letters = begin_map(out, m, n);
+    for p in 0..2 * m {
+        letters.put_letter(out, is_round(marks, work, p), work[2 * m + p] == 1);
     }
-    at.end
+    letters.end
 }
 
 // Whether the letter at position p is round: its border is marked.

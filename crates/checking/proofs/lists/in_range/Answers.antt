@@ -1,13 +1,14 @@
 -- `checking::lists::in_range` meets its contract. Assumes nothing.
+use mathlib.Core.Path.{◌∙◌}
 use native.Mathlib.Omega.{arith}
 use Rattle.checking.proofs.Scans.{range_start, range_entries, range_marks}
 use Rattle.checking.proofs.lists.in_range.Goals as goal
 
-pub returns-then-larger-start : goal.returns-then-larger-start
-returns-then-larger-start c = range_start _ _ _ c.requires (omega (arith, c.larger.ensures, c.if-larger-start.true))
+pub returns-then-max-start : goal.returns-then-max-start
+returns-then-max-start c = range_start _ _ _ c.requires (omega (arith, c.max.ensures, c.if-max-start.true))
 
 pub returns-then-entries_fit : goal.returns-then-entries_fit
-returns-then-entries_fit c = range_marks _ _ _ c.requires (omega (arith, c.larger.ensures, c.if-larger-start.false)) _ c.entries_fit.ensures c.if-entries_fit.true _ c.marks_fit.ensures
+returns-then-entries_fit c = range_marks _ _ _ c.requires (omega (arith, c.max.ensures, c.if-max-start.false)) _ c.entries_fit.ensures c.if-entries_fit.true _ c.marks_fit.ensures
 
 pub returns-else-entries_fit : goal.returns-else-entries_fit
-returns-else-entries_fit c = range_entries _ _ _ c.requires _ c.entries_fit.ensures c.if-entries_fit.false
+returns-else-entries_fit c = c.if-entries_fit.false ∙ range_entries _ _ _ c.requires _ c.entries_fit.ensures c.if-entries_fit.false

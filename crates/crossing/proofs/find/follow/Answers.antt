@@ -41,8 +41,8 @@ overflow_sub-k c = search nesting_some
 pub opened-requires : goal.opened-requires
 opened-requires c = (search nesting_last, search nesting_last_place)
 
-pub above-requires : goal.above-requires
-above-requires c =
+pub above-b-requires : goal.above-b-requires
+above-b-requires c =
     nesting_stands _ _ c.requires _ _ _ c.loop-p.invariant c.loop-p-test.true _ c.border_in-e.ensures c.if-marks-e-ne1.true
     c.if-work-places-eq0.false _ c.opened.ensures c.if-opened-e.true
 

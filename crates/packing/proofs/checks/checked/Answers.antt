@@ -16,28 +16,28 @@ returns-then-not-is_distinct c =
       kept = kept_same _ _ _ c.is_distinct.ensures.work_unchanged;
     }
 
-pub joined_points-n-requires : goal.joined_points-n-requires
-joined_points-n-requires c = (checked_turns _ _ _ c.requires.0 c.requires.1 _ c.is_distinct.ensures.decides (ap not c.if-not-is_distinct.false), c.requires.0.half, blank_still _ _ _ c.requires.2 c.is_distinct.ensures.work_unchanged)
+pub joined_points-requires : goal.joined_points-requires
+joined_points-requires c = (checked_turns _ _ _ c.requires.0 c.requires.1 _ c.is_distinct.ensures.decides (ap not c.if-not-is_distinct.false), c.requires.0.half, blank_still _ _ _ c.requires.2 c.is_distinct.ensures.work_unchanged)
 
-pub returns-then-n-eq0 : goal.returns-then-n-eq0
-returns-then-n-eq0 c =
+pub returns-in_default : goal.returns-in_default
+returns-in_default c =
     record {
-      packs_later = checked_5 _ _ _ c.requires.0 c.requires.1 _ c.is_distinct.ensures.decides (ap not c.if-not-is_distinct.false) _ c.joined_points-n.ensures.by_index c.if-n-eq0.true _;
-      kept = kept_same _ _ _ (c.joined_points-n.ensures.work_unchanged ∙ c.is_distinct.ensures.work_unchanged);
+      packs_later = checked_5 _ _ _ c.requires.0 c.requires.1 _ c.is_distinct.ensures.decides (ap not c.if-not-is_distinct.false) _ c.joined_points.ensures.by_index c.in_default.is _;
+      kept = kept_same _ _ _ (c.joined_points.ensures.work_unchanged ∙ c.is_distinct.ensures.work_unchanged);
     }
 
 pub returns-then-n-count_marks : goal.returns-then-n-count_marks
 returns-then-n-count_marks c =
     record {
-      packs_later = checked_6 _ _ _ c.requires.0 c.requires.1 _ c.is_distinct.ensures.decides (ap not c.if-not-is_distinct.false) _ c.joined_points-n.ensures.by_index c.if-n-eq0.false _ c.count_marks.ensures.by_index (omega (arith, c.if-n-count_marks.true)) _;
-      kept = kept_same _ _ _ (c.joined_points-n.ensures.work_unchanged ∙ c.is_distinct.ensures.work_unchanged);
+      packs_later = checked_6 _ _ _ c.requires.0 c.requires.1 _ c.is_distinct.ensures.decides (ap not c.if-not-is_distinct.false) _ c.joined_points.ensures.by_index _ c.in-Some.is _ c.count_marks.ensures.by_index (omega (arith, c.if-n-count_marks.true)) _;
+      kept = kept_same _ _ _ (c.joined_points.ensures.work_unchanged ∙ c.is_distinct.ensures.work_unchanged);
     }
 
 pub finish-requires : goal.finish-requires
 finish-requires c = (
-  checked_six _ _ _ c.requires.0 c.requires.1 _ c.is_distinct.ensures.decides (ap not c.if-not-is_distinct.false) _ c.joined_points-n.ensures.by_index c.if-n-eq0.false _ c.count_marks.ensures.by_index (omega (arith, c.if-n-count_marks.false)),
-  checked_points _ _ _ c.requires.0 c.requires.1 _ c.is_distinct.ensures.decides (ap not c.if-not-is_distinct.false) _ c.joined_points-n.ensures.by_index c.if-n-eq0.false _ c.count_marks.ensures.by_index,
-  blank_still _ _ _ c.requires.2 (c.joined_points-n.ensures.work_unchanged ∙ c.is_distinct.ensures.work_unchanged),
+  checked_six _ _ _ c.requires.0 c.requires.1 _ c.is_distinct.ensures.decides (ap not c.if-not-is_distinct.false) _ c.joined_points.ensures.by_index _ c.in-Some.is _ c.count_marks.ensures.by_index (omega (arith, c.if-n-count_marks.false)),
+  checked_points _ _ _ c.requires.0 c.requires.1 _ c.is_distinct.ensures.decides (ap not c.if-not-is_distinct.false) _ c.joined_points.ensures.by_index _ c.in-Some.is _ c.count_marks.ensures.by_index,
+  blank_still _ _ _ c.requires.2 (c.joined_points.ensures.work_unchanged ∙ c.is_distinct.ensures.work_unchanged),
   c.requires.3,
 )
 
@@ -45,5 +45,5 @@ pub returns : goal.returns
 returns c =
     record {
       packs_later = c.finish.ensures.packs_later;
-      kept = kept_on _ _ _ _ (c.joined_points-n.ensures.work_unchanged ∙ c.is_distinct.ensures.work_unchanged) c.finish.ensures.kept;
+      kept = kept_on _ _ _ _ (c.joined_points.ensures.work_unchanged ∙ c.is_distinct.ensures.work_unchanged) c.finish.ensures.kept;
     }

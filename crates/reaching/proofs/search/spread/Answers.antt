@@ -12,11 +12,11 @@ returns-then-ends-eq0 c =
       kept = kept_none _ _;
     }
 
-pub gather-tail-requires : goal.gather-tail-requires
-gather-tail-requires c = (c.requires.0, omega (arith, c.if-ends-eq0.false), queue_none _ _ c.requires.2, blank_whole _ _ c.requires.2)
+pub gather-requires : goal.gather-requires
+gather-requires c = (c.requires.0, omega (arith, c.if-ends-eq0.false), queue_none _ _ c.requires.2, blank_whole _ _ c.requires.2)
 
 pub loop-head-init : goal.loop-head-init
-loop-head-init c = search_start _ _ _ c.requires.0 c.requires.1 _ c.requires.2 (omega (arith, c.if-ends-eq0.false)) _ _ c.gather-tail.ensures
+loop-head-init c = search_start _ _ _ c.requires.0 c.requires.1 _ c.requires.2 (omega (arith, c.if-ends-eq0.false)) _ _ c.gather.ensures
 
 pub overflow_add-h : goal.overflow_add-h
 overflow_add-h c =
@@ -41,11 +41,11 @@ pub loop-head-preserved : goal.loop-head-preserved
 loop-head-preserved c = search_more _ _ _ c.requires.0 c.requires.1 _ _ _ _ _ c.loop-head.invariant c.loop-head-test.true _ _ _ c.cross-reached.ensures
 
 pub shape_of-work : goal.shape_of-work
-shape_of-work c = (search_kept _ _ _ c.requires.0 c.requires.1 _ _ _ _ _ c.loop-head.invariant _ _ _ _ c.gather-tail.ensures).same_length
+shape_of-work c = (search_kept _ _ _ c.requires.0 c.requires.1 _ _ _ _ _ c.loop-head.invariant _ _ _ _ c.gather.ensures).same_length
 
 pub returns : goal.returns
 returns c =
     record {
       by_index = search_spread _ _ _ c.requires.0 c.requires.1 _ _ _ _ _ c.loop-head.invariant (omega (arith, c.loop-head-test.false)) (omega (arith, c.if-ends-eq0.false));
-      kept = search_kept _ _ _ c.requires.0 c.requires.1 _ _ _ _ _ c.loop-head.invariant _ _ _ _ c.gather-tail.ensures;
+      kept = search_kept _ _ _ c.requires.0 c.requires.1 _ _ _ _ _ c.loop-head.invariant _ _ _ _ c.gather.ensures;
     }

@@ -6,7 +6,7 @@ use Rattle.reaching.proofs.Reach.{Searching}
 use Rattle.reaching.proofs.search.spread.Given as goal
 
 abbrev pub invariant-loop-head : goal.invariant-loop-head
-invariant-loop-head l = Searching l.turning (borders_of l.turning) (allowed l.marks) l.initial.work l.work l.tail l.points l.head
+invariant-loop-head l = Searching l.turning (borders_of l.turning) (allowed l.marks) l.initial.work l.work l.reached.ends l.reached.points l.head
 
 abbrev pub decreases-loop-head : goal.decreases-loop-head
 decreases-loop-head l = length l.turning - l.head

@@ -5,17 +5,14 @@ use Rattle.reaching.proofs.tree.write_marks.Goals as goal
 pub loop-e-init : goal.loop-e-init
 loop-e-init c = search copied_start
 
-pub overflow_cast-marks : goal.overflow_cast-marks
-overflow_cast-marks c = copied_fits _ _ _ c.requires _ (omega (arith, c.loop-e.invariant.same_length, c.loop-e-test.true))
-
-pub loop-e-smaller : goal.loop-e-smaller
-loop-e-smaller c = omega (arith, c.loop-e-test.true, c.loop-e.invariant.same_length)
+pub overflow_cast-mark : goal.overflow_cast-mark
+overflow_cast-mark c = copied_fits _ _ _ c.requires _ (omega (arith, c.loop-e.invariant.same_length))
 
 pub loop-e-preserved : goal.loop-e-preserved
-loop-e-preserved c = search copied_more
+loop-e-preserved c = copied_more _ _ _ _ _ c.loop-e.invariant (omega (arith, c.loop-e.invariant.same_length))
 
 pub shape_of-marks : goal.shape_of-marks
 shape_of-marks c = search copied_length
 
 pub returns : goal.returns
-returns c = copied_all _ _ _ _ _ c.loop-e.invariant (omega (arith, c.loop-e-test.false))
+returns c = copied_all _ _ _ _ _ c.loop-e.invariant (omega (arith, c.loop-e.invariant.same_length, c.loop-e-test.false))

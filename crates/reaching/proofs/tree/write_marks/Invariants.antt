@@ -1,11 +1,6 @@
 -- `reaching::tree::write_marks` meets its contract. The loop keeps `Copied`: the marks passed are written. Assumes nothing.
-use Prim.Native.Nat.{◌-◌}
-use lib.ListN.{length}
 use Rattle.reaching.proofs.Writing.{Copied}
 use Rattle.reaching.proofs.tree.write_marks.Given as goal
 
 abbrev pub invariant-loop-e : goal.invariant-loop-e
 invariant-loop-e l = Copied l.work l.from l.e l.initial.marks l.marks
-
-abbrev pub decreases-loop-e : goal.decreases-loop-e
-decreases-loop-e l = length l.initial.marks - l.e

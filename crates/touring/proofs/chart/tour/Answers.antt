@@ -1,4 +1,4 @@
-use Rattle.touring.proofs.Touring.{touring_all, touring_end, touring_entry, touring_index, touring_length, touring_more, touring_narrow, touring_outside, touring_start}
+use Rattle.touring.proofs.Touring.{touring_all, touring_end, touring_entry, touring_length, touring_more, touring_narrow, touring_outside, touring_start}
 use Rattle.touring.proofs.chart.tour.Goals as goal
 
 pub overflow_cast-h : goal.overflow_cast-h
@@ -10,14 +10,11 @@ loop-p-init c = search touring_start
 pub crossed-requires : goal.crossed-requires
 crossed-requires c = search touring_end
 
-pub overflow_cast-h-in-loop-p : goal.overflow_cast-h-in-loop-p
-overflow_cast-h-in-loop-p c = search touring_index
-
-pub bounds-turning-crossed : goal.bounds-turning-crossed
-bounds-turning-crossed c = search touring_entry
+pub bounds-turning-from : goal.bounds-turning-from
+bounds-turning-from c = rw c.from.ensures (search touring_entry)
 
 pub loop-p-preserved : goal.loop-p-preserved
-loop-p-preserved c = search touring_more
+loop-p-preserved c = rw c.from.ensures (search touring_more)
 
 pub shape_of-work : goal.shape_of-work
 shape_of-work c = search touring_length

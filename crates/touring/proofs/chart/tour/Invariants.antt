@@ -1,11 +1,6 @@
 -- `touring::chart::tour` meets its contract. The loop keeps `Touring`: the ends passed stand in the list. Assumes nothing.
-use lib.ListN.{length}
-use Prim.Native.Nat.{◌-◌}
 use Rattle.touring.proofs.Touring.{Touring}
 use Rattle.touring.proofs.chart.tour.Given as goal
 
 abbrev pub invariant-loop-p : goal.invariant-loop-p
 invariant-loop-p l = Touring l.turning l.marks l.start l.initial.work l.h l.p l.work
-
-abbrev pub decreases-loop-p : goal.decreases-loop-p
-decreases-loop-p l = length l.turning - l.p
