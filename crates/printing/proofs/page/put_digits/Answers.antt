@@ -1,5 +1,5 @@
 use Rattle.printing.proofs.Columns.{digits_all}
-use Rattle.printing.proofs.write.put_digits.Goals as goal
+use Rattle.printing.proofs.page.put_digits.Goals as goal
 
 pub loop-rest-init : goal.loop-rest-init
 loop-rest-init c = search digits_all
