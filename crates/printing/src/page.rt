@@ -82,6 +82,7 @@ fn digits_in(x: usize) -> usize
 }
 
 // The digits of a number, the last one just before byte `end`.
+#[tactic(auto, using(crate::proofs::Columns::digits_all))]
 fn put_digits(out: &mut [u8], end: usize, x: usize)
     requires { (length (decimal x) ≤ end) × (end ≤ length out.old) }
     ensures { Wrote out.old (end - length (decimal x)) (decimal x) end out.new }
