@@ -7,7 +7,7 @@ ghost use Rattle.drawing.specs.Drawing.{most_ends};
 ghost use Rattle.format.specs.Bytes.{size_in, bits_a, word_in};
 ghost use Rattle.format.specs.Open.{open_refusal};
 ghost use Rattle.text.specs.Running.{letter_from};
-ghost use Rattle.printing.specs.Writing.{Wrote};
+ghost use Rattle.printing.specs.Writing.{Puts};
 ghost use Rattle.text.specs.Listing.{kind, place_lines};
 ghost use Rattle.walking.specs.Positions.{Position};
 ghost use Rattle.listing.specs.Lines.{Says};
@@ -16,49 +16,48 @@ use crate::line::{Line, put_line};
 use answers::Place;
 use bits::bit;
 use layout::{bits_a, part_a, part_b};
+use printing::Page;
 use surveying::{Lists, Survey};
 use words::Family;
 
-// The lines of all places, from byte `at` on. The byte after them.
-pub fn put_lines(map: &[u8], out: &mut [u8], at: usize) -> usize
-    requires { (open_refusal map.now ≡ 0) × (at + 22 * most_ends ≤ length out.old) }
-    ensures { Wrote out.old at (place_lines (word_in map.now) 0 (bits_a (size_in map.now))) result out.new }
+// Puts the lines of all places.
+pub fn put_lines(map: &[u8], page: &mut Page)
+    requires { (open_refusal map.now ≡ 0) × (page.old.at + 22 * most_ends ≤ length page.old.out.now) }
+    ensures { Puts page.old (place_lines (word_in map.now) 0 (bits_a (size_in map.now))) page.new }
 {
     let mut lists = Lists::new();
-    put_surveyed(&lists.survey(map), out, at)
+    put_surveyed(&lists.survey(map), page);
 }
 
 // The same, looked up in the lists of a map. `ones` is the running count: how many of the places before this one are marked.
-fn put_surveyed(survey: &Survey, out: &mut [u8], at: usize) -> usize
-    requires { at + 22 * most_ends ≤ length out.old }
-    ensures { Wrote out.old at (place_lines (word_in survey.now.map.now) 0 (bits_a (size_in survey.now.map.now))) result out.new }
+#[tactic(auto, using(text::proofs::Running::counts_le, text::proofs::Running::kind_read, crate::proofs::Listed::lined_start, crate::proofs::Listed::lined_position, crate::proofs::Listed::lined_room, crate::proofs::Listed::lined_fits, crate::proofs::Listed::lined_step, crate::proofs::Listed::lined_end))]
+fn put_surveyed(survey: &Survey, page: &mut Page)
+    requires { page.old.at + 22 * most_ends ≤ length page.old.out.now }
+    ensures { Puts page.old (place_lines (word_in survey.now.map.now) 0 (bits_a (size_in survey.now.map.now))) page.new }
 {
     let a = part_a(survey.map);
     let b = part_b(survey.map, Family::Round);
     let c = part_b(survey.map, Family::Square);
-    let n = bits_a(survey.map);
-    let mut p = 0;
     let mut ones = 0;
-    let mut next = at;
-    while p < n {
+    for p in 0..bits_a(survey.map) {
         let marked = bit(a, p);
         let bracket = kind_of(marked, bit(b, ones), bit(c, p - ones));
         let line = line_at(survey, p, bracket);
-        next = put_line(out, next, line);
+        put_line(page, line);
         ones += marked;
-        p += 1;
     }
-    next
 }
 
 // "the four kinds are ( ) for B and [ ] for B*". A says which of the two, and the next unread bit of that string whether it closes.
+#[tactic(auto, using(crate::proofs::Letters::kind_round_closes, crate::proofs::Letters::kind_round_opens, crate::proofs::Letters::kind_square_closes, crate::proofs::Letters::kind_square_opens))]
 fn kind_of(marked: usize, b: usize, c: usize) -> u8
     ensures { kind (letter_from marked b c) ≡ result ∷ [] }
 {
-    if marked == 1 {
-        if b == 1 { b')' } else { b'(' }
-    } else {
-        if c == 1 { b']' } else { b'[' }
+    match (marked, b, c) {
+        (1, 1, _) => b')',
+        (1, _, _) => b'(',
+        (_, _, 1) => b']',
+        _ => b'[',
     }
 }
 
@@ -72,9 +71,9 @@ fn line_at(survey: &Survey, p: usize, bracket: u8) -> Line
     let area = survey.area(p);
     Line {
         place: Place(p + 1),
-        bracket: bracket,
+        bracket,
         mate: Place(mate),
-        node: node,
-        area: area,
+        node,
+        area,
     }
 }

@@ -7,7 +7,7 @@ ghost use Rattle.text.specs.Listing.{listing, refused_line, printed};
 
 use crate::lines::put_lines;
 use format::MOST_ENDS;
-use printing::put_text;
+use printing::Page;
 
 // The room of the longest listing: the heading, and 4,096 lines of at most 22 bytes.
 pub const ROOM: usize = 26 + MOST_ENDS * 22;
@@ -37,6 +37,8 @@ fn put_listing(map: &[u8], out: &mut [u8]) -> usize
     requires { (open_refusal map.now ≡ 0) × (90138 ≤ length out.old) }
     ensures { Wrote out.old 0 (listing map.now) result out.new }
 {
-    let at = put_text(out, 0, b"place kind mate node area\n");
-    put_lines(map, out, at)
+    let mut page = Page::new(out);
+    page.text(b"place kind mate node area\n");
+    put_lines(map, &mut page);
+    page.at
 }

@@ -1,43 +1,25 @@
 -- A number in its columns: spaces, then the digits over the last of them.
 --
--- spaces_start, spaces_step, spaces_end, spaces_room == spaces, one after the other
 -- wrote_before    == a byte put before a text
 -- wrote_over      == a text put over the end of another
 -- Digits          == what the loop of `put_digits` keeps: the digits from byte i on stand, those of `rest` are still to come
 -- digits_start, digits_room, digits_more, digits_end == no digit, one digit more, all digits
--- column_wrote    == a whole column
+-- column_puts     == a whole column
 -- Assumes nothing.
 use mathlib.Core.Path.{◌≡◌, refl, sym, ap, ◌∙◌, subst}
 use mathlib.Core.List.{List, [], ◌∷◌, ◌++◌, append_assoc, append-nil}
 use Prim.Native.Nat.{ℕ, ◌+◌, ◌-◌, ◌/◌, ◌%◌, ◌≤◌, ◌<◌}
 use native.Mathlib.Omega.{arith}
 use native.Mathlib.Numerals.{add-one}
-use lib.ListN.{length, get_or, take, drop, set, replicate, length-append, length-set, length-replicate, get_or-replicate, replicate-append-replicate}
+use lib.ListN.{length, get_or, take, drop, set, replicate, length-append, length-set, length-replicate, replicate-append-replicate}
 use lib.Seq.{set_at, take-suc, length-take-le, take_at, drop-drop, drop_at}
 use borrow.Author.Rules.{rules}
 use Rattle.text.specs.Decimal.{space, zero_byte, decimal, aligned}
 use Rattle.text.proofs.Decimal.{decimal_small, decimal_more}
-use Rattle.printing.specs.Writing.{Wrote}
-use Rattle.printing.proofs.Writes.{wrote_none, wrote_as, Copying, copy_start, copy_step, copy_end, more_digits}
-
--- ---- spaces
-module _ (old : List ℕ) (at k : ℕ) where
-  pub spaces_start : at + k ≤ length old → Copying old (replicate k space) at 0 old
-  spaces_start h = copy_start old (replicate k space) at (omega (arith, length-replicate k space))
-
-  module _ (i : ℕ) (out : List ℕ) (C : Copying old (replicate k space) at i out) where
-    pub spaces_step : i < k → Copying old (replicate k space) at (i + 1) (set out (at + i) space)
-    spaces_step h =
-        let e : get_or (replicate k space) i 0 ≡ space = get_or-replicate k i space 0 h in
-        rw e at (copy_step old (replicate k space) at i out C (omega (arith, length-replicate k space)))
-
-    pub spaces_end : k ≤ i → Wrote old at (replicate k space) (at + i) out
-    spaces_end h = copy_end old (replicate k space) at i out C (omega (arith, length-replicate k space))
-
-    pub spaces_room : i < k → at + i < length out
-    spaces_room h = omega (arith, C.room, C.same, length-replicate k space)
-
-pub ruleset spaces_all = (spaces_start, spaces_step, spaces_end, spaces_room, rules)
+use Rattle.printing.specs.Writing.{Wrote, Puts}
+use Rattle.printing.specs.declared.page.Page.{Page}
+use Rattle.std.proofs.Common.{MutBor}
+use Rattle.printing.proofs.Writes.{wrote_none, wrote_as, more_digits}
 
 -- ---- texts before and over others
 wrote_before : (old t : List ℕ) (i r b : ℕ) (new : List ℕ) → i < length old → Wrote old (i + 1) t r new → Wrote old i (b ∷ t) r (set new i b)
@@ -136,7 +118,7 @@ module _ (old : List ℕ) (end x : ℕ) where
 pub ruleset digits_all = (digits_start, digits_left, digits_room, digits_more, first_left, first_room, digits_end, rules)
 
 -- ---- a whole column
-pub column_wrote : (old mid new : List ℕ) (at w x end : ℕ) → length (decimal x) ≤ w → at + w ≤ length old → Wrote old at (replicate w space) end mid
+column_wrote : (old mid new : List ℕ) (at w x end : ℕ) → length (decimal x) ≤ w → at + w ≤ length old → Wrote old at (replicate w space) end mid
     → Wrote mid (end - length (decimal x)) (decimal x) end new → Wrote old at (aligned w x) end new × (end ≡ at + w)
 unfolding aligned
 column_wrote old mid new at w x end fits room S D =
@@ -149,3 +131,10 @@ column_wrote old mid new at w x end fits room S D =
           (sym (length-replicate n space)) (omega arith) (omega (arith, length-replicate (w - n) space)) W D,
       l,
     )
+
+pub column_puts : (p m : Page) (out : MutBor (List ℕ)) (w x : ℕ) → length (decimal x) ≤ w → p.at + w ≤ length p.out.now → Puts p (replicate w space) m
+    → out.ghost_name ≡ m.out.ghost_name → length out.now ≡ length m.out.now → Wrote m.out.now (m.at - length (decimal x)) (decimal x) m.at out.now
+    → Puts p (aligned w x) (record { out = out; at = m.at }) × (m.at ≡ p.at + w)
+column_puts p m out w x fits room S g l D =
+    let c = column_wrote p.out.now m.out.now out.now p.at w x m.at fits room S.wrote D in
+    (record { same_memory = g ∙ S.same_memory; same_length = l ∙ S.same_length; wrote = c.0 }, c.1)

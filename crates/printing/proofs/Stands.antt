@@ -3,6 +3,7 @@
 -- Stands t r old new == t stands at the start of new, which is as old after it, and r is its length
 -- wrote_stands      == a text put from the first byte on stands there
 -- stands_as, stands_within == an equal text stands there too; the length is within the memory
+-- puts_stands       == so does a text put on a page of that memory
 -- refused_stands    == the line of a refusal: the word and a space, then the number and a line feed
 -- Assumes nothing.
 use mathlib.Core.Path.{◌≡◌, sym, ap, ◌∙◌}
@@ -13,8 +14,9 @@ use lib.ListN.{length, drop, length-append}
 use Rattle.answers.specs.Lent.{laid}
 use Rattle.text.specs.Decimal.{codes, line_feed, decimal}
 use Rattle.text.specs.Listing.{refused_line}
-use Rattle.printing.specs.Writing.{Wrote}
-use Rattle.printing.proofs.Writes.{wrote_then}
+use Rattle.printing.specs.Writing.{Wrote, Puts}
+use Rattle.printing.specs.declared.page.Page.{Page}
+use Rattle.printing.proofs.Writes.{puts_then}
 
 abbrev pub Stands : List ℕ → ℕ → List ℕ → List ℕ → Type 0
 Stands t r old new = (r ≡ length t) × (new ≡ laid t old)
@@ -31,8 +33,15 @@ module _ (old new : List ℕ) (r : ℕ) where
   pub stands_within : (t : List ℕ) → Stands t r old new → r ≤ length new
   stands_within t S = omega (arith, S.0, ap length S.1, length-append t (drop (length t) old))
 
-  pub refused_stands : (k a : ℕ) (mid : List ℕ) → Wrote old 0 (codes "refused ") a mid → Wrote mid a (decimal k ++ (line_feed ∷ [])) r new
-      → Stands (refused_line k) r old new
+module _ (old : List ℕ) (p q : Page) (o : p.out.now ≡ old) (z : p.at ≡ 0) where
+  pub puts_stands : (t : List ℕ) → Puts p t q → Stands t q.at old q.out.now
+  puts_stands t P =
+      let W : Wrote old 0 t q.at q.out.now = rw (o, z) at P.wrote in
+      wrote_stands old q.out.now q.at t W
+
+  pub refused_stands : (k x : ℕ) → x ≡ k → (m : Page) → Puts p (codes "refused ") m → Puts m (decimal x ++ (line_feed ∷ [])) q
+      → Stands (refused_line k) q.at old q.out.now
   unfolding refused_line
-  refused_stands k a mid W Y =
-      wrote_stands (refused_line k) (wrote_then old (codes "refused ") 0 a mid (omega arith) W (decimal k ++ (line_feed ∷ [])) r new Y)
+  refused_stands k x e m P Q =
+      let Y : Puts m (decimal k ++ (line_feed ∷ [])) q = rw e at Q in
+      puts_stands (refused_line k) (puts_then p m (codes "refused ") (omega arith) P (decimal k ++ (line_feed ∷ [])) q Y)

@@ -3,7 +3,7 @@ ghost use Rattle.std.specs.Prelude.{◌≡◌, ◌≤◌, length};
 ghost use Rattle.answers.specs.Lent.{laid};
 ghost use Rattle.text.specs.Listing.{refused_line};
 
-use crate::write::{put_number, put_text};
+use crate::page::Page;
 
 // The line of refusal k. Its length.
 pub fn refused(k: u8, out: &mut [u8]) -> usize
@@ -11,6 +11,8 @@ pub fn refused(k: u8, out: &mut [u8]) -> usize
     ensures value { result ≡ length (refused_line k) }
     ensures out_after { out.new ≡ laid (refused_line k) out.old }
 {
-    let at = put_text(out, 0, b"refused ");
-    put_number(out, at, k as usize, b'\n')
+    let mut page = Page::new(out);
+    page.text(b"refused ");
+    page.number(usize::from(k), b'\n');
+    page.at
 }

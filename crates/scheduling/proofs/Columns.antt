@@ -3,13 +3,13 @@
 -- five_digits      == a number below 100,000 fits 5 columns
 -- five_columns, seven_columns == and takes exactly its columns
 -- gap_aligned      == two spaces and 5 columns are 7 columns
--- row_wrote        == an area's line: three columns and a line feed
--- total_wrote      == the last line
+-- row_puts         == an area's line: three columns and a line feed
+-- total_puts       == the last line
 -- on_page, first_page, new_page == what stands before a line: nothing, the heading, an empty line and the heading
 -- heading_length   == the heading has 20 bytes
 -- break_none, break_first, break_next == and how it is put
 -- Assumes nothing.
-use mathlib.Core.Path.{◌≡◌, refl, sym, ap, ◌∙◌}
+use mathlib.Core.Path.{◌≡◌, refl, sym, ap, ◌∙◌, subst}
 use mathlib.Core.List.{List, [], ◌∷◌, ◌++◌, append_assoc}
 use Prim.Native.Nat.{ℕ, suc, ◌+◌, ◌-◌, ◌%◌, ◌≤◌, ◌<◌}
 use native.Mathlib.Omega.{arith}
@@ -22,8 +22,9 @@ use Rattle.text.specs.Decimal.{codes, space, line_feed, decimal, aligned}
 use Rattle.text.specs.Schedule.{per_page, page_heading, column, gap, Row, row_line, row_cells, total_line}
 use Rattle.text.proofs.Short.{decimal_length}
 use Rattle.text.proofs.Columns.{aligned_within}
-use Rattle.printing.specs.Writing.{Wrote}
-use Rattle.printing.proofs.Writes.{wrote_none, wrote_then, wrote_as}
+use Rattle.printing.specs.Writing.{Puts}
+use Rattle.printing.specs.declared.page.Page.{Page}
+use Rattle.printing.proofs.Writes.{puts_none, puts_then, puts_as}
 use Rattle.scheduling.specs.Breaks.{page_break}
 
 -- ---- columns
@@ -53,19 +54,19 @@ row_columns r hs hf =
     ∙ ap (λ t. ((column r.area ++ (gap ++ column r.sides)) ++ t) ++ (line_feed ∷ [])) (gap_aligned r.first hf)
     ∙ simp append_assoc
 
-module _ (o₀ o₁ o₂ o₃ o₄ : List ℕ) (at a b c r : ℕ) (row : Row) (ha : row.area < 100000) (hs : row.sides < 100000) (hf : row.first < 100000) (h : at + 20 ≤ length o₀) where
-  pub row_wrote : Wrote o₀ at (aligned 5 row.area) a o₁ → Wrote o₁ a (aligned 7 row.sides) b o₂ → Wrote o₂ b (aligned 7 row.first) c o₃
-      → Wrote o₃ c (line_feed ∷ []) r o₄ → Wrote o₀ at (row_line row) r o₄ × (r ≡ at + 20)
-  row_wrote A B C D =
+module _ (p a b c q : Page) (row : Row) (ha : row.area < 100000) (hs : row.sides < 100000) (hf : row.first < 100000) (h : p.at + 20 ≤ length p.out.now) where
+  pub row_puts : Puts p (aligned 5 row.area) a → Puts a (aligned 7 row.sides) b → Puts b (aligned 7 row.first) c
+      → Puts c (line_feed ∷ []) q → Puts p (row_line row) q × (q.at ≡ p.at + 20)
+  row_puts A B C D =
       let x : List ℕ = aligned 5 row.area in
       let y : List ℕ = aligned 7 row.sides in
       let z : List ℕ = aligned 7 row.first in
-      let l : at ≤ length o₀ = omega arith in
-      let B' = wrote_then o₀ x at a o₁ l A y b o₂ B in
-      let C' = wrote_then o₀ (x ++ y) at b o₂ l B' z c o₃ C in
-      let D' = wrote_then o₀ ((x ++ y) ++ z) at c o₃ l C' (line_feed ∷ []) r o₄ D in (
-        wrote_as o₀ (((x ++ y) ++ z) ++ (line_feed ∷ [])) (row_line row) at r o₄ (row_columns row hs hf) D',
-        omega (arith, A.next, B.next, C.next, D.next, five_columns row.area ha, seven_columns row.sides hs, seven_columns row.first hf),
+      let l : p.at ≤ length p.out.now = omega arith in
+      let B' = puts_then p a x l A y b B in
+      let C' = puts_then p b (x ++ y) l B' z c C in
+      let D' = puts_then p c ((x ++ y) ++ z) l C' (line_feed ∷ []) q D in (
+        puts_as p q (((x ++ y) ++ z) ++ (line_feed ∷ [])) (row_line row) (row_columns row hs hf) D',
+        omega (arith, A.wrote.next, B.wrote.next, C.wrote.next, D.wrote.next, five_columns row.area ha, seven_columns row.sides hs, seven_columns row.first hf),
       )
 
 -- ---- the last line
@@ -74,13 +75,13 @@ unfolding total_line
 total_columns x h =
     ap (λ t. (codes "total" ++ t) ++ (line_feed ∷ [])) (gap_aligned x h) ∙ simp append_assoc
 
-module _ (o₀ o₁ o₂ o₃ : List ℕ) (at a b r x : ℕ) (hx : x < 100000) (h : at ≤ length o₀) where
-  pub total_wrote : Wrote o₀ at (codes "total") a o₁ → Wrote o₁ a (aligned 7 x) b o₂ → Wrote o₂ b (line_feed ∷ []) r o₃ → Wrote o₀ at (total_line x) r o₃
-  total_wrote A B C =
+module _ (p a b q : Page) (x : ℕ) (hx : x < 100000) (h : p.at ≤ length p.out.now) where
+  pub total_puts : Puts p (codes "total") a → Puts a (aligned 7 x) b → Puts b (line_feed ∷ []) q → Puts p (total_line x) q
+  total_puts A B C =
       let t : List ℕ = codes "total" in
-      let B' = wrote_then o₀ t at a o₁ h A (aligned 7 x) b o₂ B in
-      let C' = wrote_then o₀ (t ++ aligned 7 x) at b o₂ h B' (line_feed ∷ []) r o₃ C in
-      wrote_as o₀ ((t ++ aligned 7 x) ++ (line_feed ∷ [])) (total_line x) at r o₃ (total_columns x hx) C'
+      let B' = puts_then p a t h A (aligned 7 x) b B in
+      let C' = puts_then p b (t ++ aligned 7 x) h B' (line_feed ∷ []) q C in
+      puts_as p q ((t ++ aligned 7 x) ++ (line_feed ∷ [])) (total_line x) (total_columns x hx) C'
 
 -- ---- what stands before a line
 module _ (i : ℕ) where
@@ -102,15 +103,16 @@ pub heading_length : length page_heading ≡ 20
 unfolding page_heading
 heading_length = refl
 
-module _ (old : List ℕ) (at i : ℕ) where
-  pub break_none : (i % per_page ≡ 0 → ⊥) → Wrote old at (page_break i) at old
-  break_none n = wrote_as old [] (page_break i) at at old (sym (on_page i n)) (wrote_none old at)
+module _ (p : Page) (i : ℕ) where
+  pub break_none : (i % per_page ≡ 0 → ⊥) → Puts p (page_break i) p
+  break_none n = puts_as p p [] (page_break i) (sym (on_page i n)) (puts_none p)
 
-  module _ (r : ℕ) (new : List ℕ) where
-    pub break_first : i ≡ 0 → Wrote old at page_heading r new → Wrote old at (page_break i) r new
-    break_first z W = wrote_as old page_heading (page_break i) at r new (sym (first_page i z)) W
+  -- m is the page that the heading is put on
+  module _ (m q : Page) (Y : Puts m page_heading q) where
+    pub break_first : i ≡ 0 → m ≡ p → Puts p (page_break i) q
+    break_first z e = puts_as p q page_heading (page_break i) (sym (first_page i z)) (subst (λ x. Puts x page_heading q) e Y)
 
-    pub break_next : (a : ℕ) (mid : List ℕ) → at ≤ length old → i % per_page ≡ 0 → (i ≡ 0 → ⊥) → Wrote old at (line_feed ∷ []) a mid → Wrote mid a page_heading r new
-        → Wrote old at (page_break i) r new
-    break_next a mid h z n W Y =
-        wrote_as old ((line_feed ∷ []) ++ page_heading) (page_break i) at r new (sym (new_page i z n)) (wrote_then old (line_feed ∷ []) at a mid h W page_heading r new Y)
+    pub break_next : (k : Page) → p.at ≤ length p.out.now → i % per_page ≡ 0 → (i ≡ 0 → ⊥) → Puts p (line_feed ∷ []) k → m ≡ k → Puts p (page_break i) q
+    break_next k h z n W e =
+        puts_as p q ((line_feed ∷ []) ++ page_heading) (page_break i) (sym (new_page i z n))
+        (puts_then p k (line_feed ∷ []) h W page_heading q (subst (λ x. Puts x page_heading q) e Y))

@@ -26,8 +26,9 @@ use Rattle.format.proofs.Passes.{opens_passes}
 use Rattle.text.specs.Schedule.{per_page, Row, row_of, rows_of, row_line, sum_of, pages_text, total_line, schedule_text, schedule}
 use Rattle.text.proofs.Pages.{pages_first, pages_new, pages_on, sum_more}
 use Rattle.text.proofs.Schedule.{schedule_total}
-use Rattle.printing.specs.Writing.{Wrote}
-use Rattle.printing.proofs.Writes.{wrote_none, wrote_then, wrote_as}
+use Rattle.printing.specs.Writing.{Puts}
+use Rattle.printing.specs.declared.page.Page.{Page}
+use Rattle.printing.proofs.Writes.{puts_none, puts_then, puts_as}
 use Rattle.tallying.specs.Tallied.{Tallied, entry_at}
 use Rattle.tallying.proofs.Lookups.{sides_told, first_told}
 use Rattle.scheduling.specs.Breaks.{page_break}
@@ -76,21 +77,21 @@ break_most i =
     ]
 
 -- ---- the loop
-pub record Paging (s ss fs old : List ℕ) (n i sum next : ℕ) (out : List ℕ) : Type 0 where
+pub record Paging (s ss fs : List ℕ) (start : Page) (n i sum : ℕ) (page : Page) : Type 0 where
   pub opens : open_refusal s ≡ 0
   pub tallied : Tallied s ss fs
   pub areas : n ≡ cells_in (size_in s) Kind.area
   pub within : i ≤ n
   pub few : n ≤ 2049
-  pub so_far : Wrote old 0 (pages_text (rows_to s i)) next out
+  pub so_far : Puts start (pages_text (rows_to s i)) page
   pub added : sum ≡ sum_of (rows_to s i)
   pub sum_most : sum ≤ 65536 * i
-  pub most : next ≤ pages_most i
-  pub room : 41853 ≤ length old
-  pub same : length out ≡ length old
+  pub most : page.at ≤ start.at + pages_most i
+  pub room : start.at + 41853 ≤ length start.out.now
 
-module _ (s ss fs old : List ℕ) (n : ℕ) where
-  pub paged_start : open_refusal s ≡ 0 → Tallied s ss fs → n ≡ cells_in (size_in s) Kind.area → 41853 ≤ length old → Paging s ss fs old n 0 0 0 old
+module _ (s ss fs : List ℕ) (start : Page) (n : ℕ) where
+  pub paged_start : open_refusal s ≡ 0 → Tallied s ss fs → n ≡ cells_in (size_in s) Kind.area → start.at + 41853 ≤ length start.out.now
+      → Paging s ss fs start n 0 0 start
   unfolding pages_text sum_of table
   paged_start o T e h =
       record {
@@ -99,26 +100,25 @@ module _ (s ss fs old : List ℕ) (n : ℕ) where
         areas = e;
         within = omega arith;
         few = omega (arith, (opens_passes s o).m_most, (opens_passes s o).n_least);
-        so_far = wrote_none old 0;
+        so_far = puts_none start;
         added = refl;
         sum_most = omega arith;
         most = omega arith;
         room = h;
-        same = refl;
       }
 
-  module _ (i sum next : ℕ) (out : List ℕ) (P : Paging s ss fs old n i sum next out) where
-    pub break_room : i < n → next + 21 ≤ length out
-    break_room l = omega (arith, P.most, P.few, P.room, P.same)
+  module _ (i sum : ℕ) (page : Page) (P : Paging s ss fs start n i sum page) where
+    pub break_room : i < n → page.at + 21 ≤ length page.out.now
+    break_room l = omega (arith, P.most, P.few, P.room, P.so_far.same_length)
 
-    pub row_room : (at : ℕ) (mid : List ℕ) → i < n → Wrote out next (page_break i) at mid → length mid ≡ length out → at + 20 ≤ length mid
-    row_room at mid l W e = omega (arith, P.most, P.few, P.room, P.same, W.next, break_most i)
+    pub row_room : (m : Page) → i < n → Puts page (page_break i) m → m.at + 20 ≤ length m.out.now
+    row_room m l W = omega (arith, P.most, P.few, P.room, P.so_far.same_length, W.same_length, W.wrote.next, break_most i)
 
-    pub paged_more : (count first at r : ℕ) (mid new : List ℕ) → i < n → (count ≡ entry_at ss (i + 1)) × (count < 65536) → first ≡ entry_at fs (i + 1)
-        → Wrote out next (page_break i) at mid → Wrote mid at (row_line (record { area = i + 1; sides = count; first = first })) r new × (r ≡ at + 20)
-        → length new ≡ length out → Paging s ss fs old n (i + 1) (sum + count) r new
+    pub paged_more : (count first : ℕ) (m q : Page) → i < n → (count ≡ entry_at ss (i + 1)) × (count < 65536) → first ≡ entry_at fs (i + 1)
+        → Puts page (page_break i) m → Puts m (row_line (record { area = i + 1; sides = count; first = first })) q × (q.at ≡ m.at + 20)
+        → Paging s ss fs start n (i + 1) (sum + count) q
     unfolding row_of
-    paged_more count first at r mid new l hc hf B R e =
+    paged_more count first m q l hc hf B R =
         let h : i + 1 ≤ cells_in (size_in s) Kind.area = omega (arith, P.areas) in
         let cs : count ≡ places_in (word_in s) Kind.area (i + 1) = hc.0 ∙ sides_told s ss fs P.tallied (i + 1) (omega arith) h in
         let cf : first ≡ first_in (word_in s) Kind.area (i + 1) = hf ∙ first_told s ss fs P.tallied (i + 1) (omega arith) h in
@@ -126,22 +126,21 @@ module _ (s ss fs old : List ℕ) (n : ℕ) where
         let row : record { area = i + 1; sides = count; first = first } ≡ row_of s (suc i) = here ∙ ap (row_of s) (add-one i) in
         let es : count ≡ places_in (word_in s) Kind.area (suc i) = cs ∙ ap (places_in (word_in s) Kind.area) (add-one i) in
         let t : List ℕ = pages_text (rows_to s i) in
-        let W = wrote_then old t 0 next out (omega arith) P.so_far (page_break i) at mid B in
-        let L = wrote_as mid (row_line (record { area = i + 1; sides = count; first = first })) (row_line (row_of s (suc i))) at r new (ap row_line row) R.0 in
-        let Y = wrote_then old (t ++ page_break i) 0 at mid (omega arith) W (row_line (row_of s (suc i))) r new L in
+        let W = puts_then start page t (omega (arith, P.room)) P.so_far (page_break i) m B in
+        let L = puts_as m q (row_line (record { area = i + 1; sides = count; first = first })) (row_line (row_of s (suc i))) (ap row_line row) R.0 in
+        let Y = puts_then start m (t ++ page_break i) (omega (arith, P.room)) W (row_line (row_of s (suc i))) q L in
         record {
           opens = P.opens;
           tallied = P.tallied;
           areas = P.areas;
           within = omega arith;
           few = P.few;
-          so_far = wrote_as old ((t ++ page_break i) ++ row_line (row_of s (suc i))) (pages_text (rows_to s (i + 1))) 0 r new
+          so_far = puts_as start q ((t ++ page_break i) ++ row_line (row_of s (suc i))) (pages_text (rows_to s (i + 1)))
               (append_assoc t (page_break i) (row_line (row_of s (suc i))) ∙ sym (text_more s i)) Y;
           added = ap (λ x. sum + x) es ∙ ap (λ x. x + places_in (word_in s) Kind.area (suc i)) P.added ∙ sym (sum_grows s i);
           sum_most = omega (arith, P.sum_most, hc.1);
-          most = omega (arith, P.most, B.next, R.1, break_most i);
+          most = omega (arith, P.most, B.wrote.next, R.1, break_most i);
           room = P.room;
-          same = e ∙ P.same;
         }
 
     module _ (g : n ≤ i) where
@@ -149,15 +148,15 @@ module _ (s ss fs old : List ℕ) (n : ℕ) where
       unfolding rows_of
       all_rows = let e : i ≡ cells_in (size_in s) Kind.area = omega (arith, P.areas, P.within) in ap (rows_to s) e
 
-      pub total_room : (sum < 100000) × (next + 13 ≤ length out)
+      pub total_room : (sum < 100000) × (page.at + 13 ≤ length page.out.now)
       total_room = (
         omega (arith, P.added ∙ ap sum_of all_rows ∙ schedule_total s P.opens, (opens_passes s P.opens).m_most),
-        omega (arith, P.most, P.few, P.within, P.room, P.same),
+        omega (arith, P.most, P.few, P.within, P.room, P.so_far.same_length),
       )
 
-      pub paged_end : (r : ℕ) (new : List ℕ) → Wrote out next (total_line sum) r new → Wrote old 0 (schedule s) r new
+      pub paged_end : (q : Page) → Puts page (total_line sum) q → Puts start (schedule s) q
       unfolding schedule schedule_text
-      paged_end r new W =
-          wrote_as old (pages_text (rows_to s i) ++ total_line sum) (pages_text (rows_of s) ++ total_line (sum_of (rows_of s))) 0 r new
+      paged_end q W =
+          puts_as start q (pages_text (rows_to s i) ++ total_line sum) (pages_text (rows_of s) ++ total_line (sum_of (rows_of s)))
           (ap (λ x. pages_text (rows_to s i) ++ total_line x) P.added ∙ ap (λ rs. pages_text rs ++ total_line (sum_of rs)) all_rows)
-          (wrote_then old (pages_text (rows_to s i)) 0 next out (omega arith) P.so_far (total_line sum) r new W)
+          (puts_then start page (pages_text (rows_to s i)) (omega (arith, P.room)) P.so_far (total_line sum) q W)

@@ -8,6 +8,7 @@ ghost use Rattle.text.specs.Listing.{refused_line};
 ghost use Rattle.text.specs.Schedule.{schedule, schedule_of};
 
 use crate::pages::put_pages;
+use printing::Page;
 use tallying::{MOST_AREAS, tally};
 
 // The room of the longest schedule: 2,049 lines and 41 headings of 20 bytes, 40 empty lines, and the last line.
@@ -54,5 +55,7 @@ fn put_tallied(
     requires { (open_refusal map.now ≡ 0) × Tallied map.now sides.now firsts.now }
     ensures { Wrote out.old 0 (schedule map.now) result out.new }
 {
-    put_pages(map, sides, firsts, out)
+    let mut page = Page::new(out);
+    put_pages(map, sides, firsts, &mut page);
+    page.at
 }
