@@ -12,7 +12,7 @@ pub fn point_at(map: &[u8], place: Place) -> Result<Point, Refusal>
     ensures { point_means result ≡ point_of map.now place.0 }
 {
     check_place(map, place)?;
-    point_of(map, place.0 - 1); Err(Refusal::NoPoint)
+    Ok(point_of(map, place.0 - 1))
 }
 
 // The area that a place is on the walk of.

@@ -5,7 +5,6 @@ ghost use Rattle.answers.specs.Answer.{answer};
 ghost use Rattle.drawing.specs.Drawing.{lent};
 ghost use Rattle.text.specs.Listing.{listed, packed, places_of};
 
-use answers::{Packed, Parsed};
 use format::{LONGEST, MOST_BORDERS, MOST_ENDS};
 use listing::ROOM;
 
@@ -20,11 +19,8 @@ pub fn places(text: &[u8], out: &mut [u8; ROOM]) -> usize
     let mut turning = [0u16; MOST_ENDS];
     let mut marks = [0u8; MOST_BORDERS];
     match reading::parse(text, &mut turning, &mut marks) {
-        Parsed::Borders(m) => {
-            let ends = 2 * m;
-            places_of(&turning[..ends], &marks[..m], out)
-        }
-        Parsed::Declined(k) => listing::refused(k, out),
+        Ok(m) => places_of(&turning[..2 * m], &marks[..m], out),
+        Err(e) => listing::refused(u8::from(e), out),
     }
 }
 
@@ -37,8 +33,7 @@ fn places_of(turning: &[u16], marks: &[u8], out: &mut [u8; ROOM]) -> usize
     let mut work = [0u16; WORKING];
     let mut map = [0u8; LONGEST];
     match packing::pack(turning, marks, 0, &mut work, &mut map) {
-        Packed::Length(n) => listing::list(&map[..n], out),
-        Packed::Crossing(_, _) => listing::refused(7, out),
-        Packed::Declined(k) => listing::refused(k, out),
+        Ok(n) => listing::list(&map[..n], out),
+        Err(e) => listing::refused(u8::from(e), out),
     }
 }

@@ -2,7 +2,7 @@
 ghost use Rattle.drawing.specs.Drawing.{lent};
 ghost use Rattle.demands.specs.Rehearsal.{Rehearses};
 
-use answers::{Packed, Place, Rehearsed};
+use answers::{Place, Refusal, Rehearsal};
 
 // Packs the drawing into `out`, then runs the calls on the map, from the first number on.
 pub fn rehearse(
@@ -15,18 +15,12 @@ pub fn rehearse(
     calls: &[u8],
     statuses: &mut [u8],
     answers: &mut [u16],
-) -> Rehearsed
+) -> Result<Rehearsal, Refusal>
     ensures { Rehearses (lent turning.now marks.now start) first.0 calls.now result
         (record { work = work.old; out = out.old; statuses = statuses.old; answers = answers.old })
         (record { work = work.new; out = out.new; statuses = statuses.new; answers = answers.new }) }
 {
-    let packed = packing::pack(turning, marks, start, work, out);
-    match packed {
-        Packed::Length(n) => {
-            let ran = sessions::session(&out[..n], first, calls, statuses, answers);
-            Rehearsed::Session(n, ran)
-        }
-        Packed::Crossing(a, b) => Rehearsed::Crossing(a, b),
-        Packed::Declined(k) => Rehearsed::Declined(k),
-    }
+    let length = packing::pack(turning, marks, start, work, out)?;
+    let left = sessions::session(&out[..length], first, calls, statuses, answers);
+    Ok(Rehearsal { length, left })
 }

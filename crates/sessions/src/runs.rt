@@ -9,8 +9,8 @@ ghost use Rattle.format.specs.Open.{open_refusal};
 ghost use Rattle.format.specs.Sessions.{calls_of, ran_of, statuses_of, values_of};
 ghost use Rattle.sessions.specs.Runs.{Room, Leaves};
 
-use crate::codes::{NO_CALL, are_calls};
-use answers::{Place, PlaceAnswer};
+use crate::codes::are_calls;
+use answers::{Place, Refusal};
 use calling::tell;
 use layout::bits_a;
 use surveying::{Lists, Survey};
@@ -28,7 +28,7 @@ pub fn session(
     calls: &[u8],
     statuses: &mut [u8],
     answers: &mut [u16],
-) -> PlaceAnswer
+) -> Result<Place, Refusal>
     ensures result_value { place_means result ≡ told (λ (o : Outcome). o.place)
         (ran_of map.now first.0 calls.now (length statuses.old) (length answers.old)) }
     ensures statuses_after { statuses.new ≡ leaves (λ (o : Outcome). laid (statuses_of o))
@@ -38,20 +38,17 @@ pub fn session(
         (ran_of map.now first.0 calls.now (length statuses.old) (length answers.old))
         answers.old }
 {
-    let k = opening::refusal(map);
-    if k != 0 {
-        return PlaceAnswer::Declined(k);
-    }
+    opening::check(map)?;
     if statuses.len() < calls.len() {
-        return PlaceAnswer::Declined(2);
+        return Err(Refusal::Room);
     }
     if answers.len() < calls.len() {
-        return PlaceAnswer::Declined(2);
+        return Err(Refusal::Room);
     }
     if !are_calls(calls) {
-        return PlaceAnswer::Declined(NO_CALL);
+        return Err(Refusal::NoCall);
     }
-    PlaceAnswer::At(run_open(map, first, calls, statuses, answers))
+    Ok(run_open(map, first, calls, statuses, answers))
 }
 
 // The calls on bytes that open: few walk through the bytes, many look up in lists of the whole map.

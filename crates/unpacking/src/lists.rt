@@ -12,33 +12,30 @@ ghost use Rattle.surveying.specs.Surveyed.{Mates};
 ghost use Rattle.unpacking.specs.Ended.{Ends};
 
 use crate::ends::write_ends;
-use answers::Unpacked;
+use answers::Refusal;
 use layout::{bits_a, borders, part_a};
 use lending::wide;
 use surveying::survey;
 use walking::after;
 
 // Writes the drawing of the map and answers m, or declines: opening's checks, then 16: "lists under 2m or m entries".
-pub fn unpack(map: &[u8], turning: &mut [u16], marks: &mut [u8]) -> Unpacked
+pub fn unpack(map: &[u8], turning: &mut [u16], marks: &mut [u8]) -> Result<usize, Refusal>
     ensures result_value { unpacked_means result ≡ told borders (unpack_of map.now (length turning.old) (length marks.old)) }
     ensures turning_after { turning.new ≡ leaves (λ (D : Drawing). laid D.turning)
         (unpack_of map.now (length turning.old) (length marks.old)) turning.old }
     ensures marks_after { marks.new ≡ leaves (λ (D : Drawing). laid D.marks)
         (unpack_of map.now (length turning.old) (length marks.old)) marks.old }
 {
-    let k = opening::refusal(map);
-    if k != 0 {
-        return Unpacked::Declined(k);
-    }
+    opening::check(map)?;
     let m = borders(map);
     if turning.len() < 2 * m {
-        return Unpacked::Declined(16);
+        return Err(Refusal::ShortLists);
     }
     if marks.len() < m {
-        return Unpacked::Declined(16);
+        return Err(Refusal::ShortLists);
     }
     write(map, turning, marks);
-    Unpacked::Borders(m)
+    Ok(m)
 }
 
 // Writes the drawing of a map that opens.
