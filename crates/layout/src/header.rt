@@ -1,11 +1,12 @@
 // The header: "m, then n, each two bytes, low byte first"; then the count of areas. A byte past the end is read as 0.
-ghost use Rattle.std.specs.Prelude.{◌≡◌, ◌-◌, ◌<◌};
+ghost use Rattle.std.specs.Prelude.{◌≡◌, ◌<◌};
 ghost use Rattle.format.specs.Bytes.{header, areas_of, size_in, written_areas, le16_at};
 
 use bits::byte;
 use format::{AT_AREAS, AT_M, AT_N};
 
 // m
+#[tactic(auto, unfolding(format::specs::Bytes::size_in))]
 pub fn borders(map: &[u8]) -> usize
     ensures { (result ≡ (size_in map.now).m) × (result < 65536) }
 {
@@ -13,6 +14,7 @@ pub fn borders(map: &[u8]) -> usize
 }
 
 // n
+#[tactic(auto, unfolding(format::specs::Bytes::size_in))]
 pub fn points(map: &[u8]) -> usize
     ensures { (result ≡ (size_in map.now).n) × (result < 65536) }
 {
@@ -23,24 +25,19 @@ pub fn points(map: &[u8]) -> usize
 pub fn areas(map: &[u8]) -> usize
     ensures { (result ≡ areas_of (size_in map.now)) × (result < 65538) }
 {
-    minus(borders(map) + 2, points(map))
+    (borders(map) + 2).saturating_sub(points(map))
 }
 
 // The count of areas that the header has, right or wrong.
+#[tactic(auto, unfolding(format::specs::Bytes::written_areas))]
 pub fn written_areas(map: &[u8]) -> usize
     ensures { result ≡ written_areas map.now }
 {
     le16(map, AT_AREAS)
 }
 
-// The difference; 0 where b is the greater.
-pub fn minus(a: usize, b: usize) -> usize
-    ensures { result ≡ a - b }
-{
-    if a < b { 0 } else { a - b }
-}
-
 // The number that the bytes at i and i + 1 hold.
+#[tactic(auto, unfolding(format::specs::Bytes::le16_at))]
 fn le16(map: &[u8], i: usize) -> usize
     requires { i < header }
     ensures { (result ≡ le16_at map.now i) × (result < 65536) }

@@ -5,13 +5,13 @@ ghost use Rattle.std.specs.Prelude.{◌≡◌, ◌+◌, ◌<◌, ◌≤◌};
 ghost use Rattle.bits.specs.Letters.{family_bit};
 ghost use Rattle.format.specs.Bytes.{header, size_in, bits_a, bits_b, start_b, map_length, part, part_a, part_b};
 
-use crate::header::{borders, minus, points};
+use crate::header::{borders, points};
 use bits::bytes_for;
 use format::HEADER;
-use lending::least;
 use words::Family;
 
 // The bytes of A.
+#[tactic(auto, using(crate::proofs::Offsets::past_header, crate::proofs::Offsets::a_is))]
 pub fn part_a(map: &[u8]) -> &[u8]
     ensures { result.now ≡ part_a map.now }
 {
@@ -19,6 +19,7 @@ pub fn part_a(map: &[u8]) -> &[u8]
 }
 
 // The bytes of B or B*.
+#[tactic(auto, using(crate::proofs::Offsets::b_is))]
 pub fn part_b(map: &[u8], family: Family) -> &[u8]
     ensures { result.now ≡ part_b family map.now }
 {
@@ -38,12 +39,13 @@ pub fn bits_b(map: &[u8], family: Family) -> usize
     ensures { (result ≡ bits_b family (size_in map.now)) × (result ≤ 131072) }
 {
     match family {
-        Family::Round => minus(2 * points(map), 2),
-        Family::Square => 2 * minus(borders(map) + 1, points(map)),
+        Family::Round => (2 * points(map)).saturating_sub(2),
+        Family::Square => 2 * (borders(map) + 1).saturating_sub(points(map)),
     }
 }
 
 // The length of the whole map, as the header has it.
+#[tactic(auto, unfolding(format::specs::Bytes::map_length))]
 pub fn map_length(map: &[u8]) -> usize
     ensures { result ≡ map_length (size_in map.now) }
 {
@@ -61,6 +63,7 @@ pub fn family_bit(family: Family) -> usize
 }
 
 // Where B or B* begins.
+#[tactic(auto, unfolding(format::specs::Bytes::start_b))]
 pub fn start_b(map: &[u8], family: Family) -> usize
     ensures { (result ≡ start_b family (size_in map.now)) × (result ≤ header + 32768) }
 {
@@ -76,7 +79,5 @@ fn between(map: &[u8], a: usize, e: usize) -> &[u8]
     requires { a ≤ e }
     ensures { result.now ≡ part map.now a e }
 {
-    let from = least(a, map.len());
-    let to = least(e, map.len());
-    &map[from..to]
+    &map[a.min(map.len())..e.min(map.len())]
 }

@@ -17,9 +17,8 @@ pub fn list(map: &[u8], out: &mut [u8; ROOM]) -> usize
     ensures value { result ≡ length (printed map.now) }
     ensures out_after { out.new ≡ laid (printed map.now) out.old }
 {
-    let k = opening::refusal(map);
-    if k != 0 {
-        return refused(k, out);
+    if let Err(e) = opening::check(map) {
+        return refused(u8::from(e), out);
     }
     put_listing(map, out)
 }

@@ -104,10 +104,11 @@ module _ {s : List ℕ} {e p d : ℕ} where
         rest = sym (rw (a, b) at (behind_closes s e (k - 1) f (omega arith) (closes_at s (k - 1) r h z))) ∙ C.rest;
       }
 
-  pub coming_stuck : {k f r : ℕ} → Coming s e p d k f → e < k → r ≡ bit s (k - 1) → r ≡ 0 → f ≡ 0 → stuck (k - e) ≡ behind s e p d
+  pub coming_stuck : {k f r : ℕ} → Coming s e p d k f → e < k → r ≡ bit s (k - 1) → r ≡ 0 → f ≡ 0 → stuck (k - 1 + 1 - e) ≡ behind s e p d
   coming_stuck {k} {f} {r} C l h z x =
       let a : suc (k - 1) ≡ k = omega arith in
-      sym (rw a at (behind_stuck s e (k - 1) (omega arith) (opens_at s (k - 1) r h z))) ∙ rw x at C.rest
+      let b : k - 1 + 1 ≡ k = omega arith in
+      rw b (sym (rw a at (behind_stuck s e (k - 1) (omega arith) (opens_at s (k - 1) r h z))) ∙ rw x at C.rest)
 
   pub coming_end : {k f : ℕ} → Coming s e p d k f → k ≤ e → whole f ≡ behind s e p d
   coming_end {k} {f} C l = sym (behind_end s e k f l) ∙ C.rest

@@ -5,13 +5,13 @@
 -- pass_ahead        == with enough that wait the scan passes all: each unpaired closing takes one, each unpaired opening waits
 -- pass_behind       == the scan back, with openings and closings exchanged
 -- byte_same         == the brackets of a string's byte are those of the number
--- entry_is, entry_fits_lem == what stands in the table of entries
+-- entry_is          == what stands in the table of entries
 -- Assumes nothing.
 use mathlib.Core.Path.{◌≡◌, refl, sym, ap, ◌∙◌}
 use mathlib.Core.Logic.{inl, inr}
 use mathlib.Core.Bool.{Bool, true, false}
 use mathlib.Core.List.{List}
-use Prim.Native.Nat.{ℕ, zero, suc, pred, ◌+◌, ◌-◌, ◌*◌, ◌/◌, ◌%◌, ◌^◌, ◌<◌, ◌≤◌}
+use Prim.Native.Nat.{ℕ, zero, suc, pred, ◌+◌, ◌-◌, ◌*◌, ◌/◌, ◌%◌, ◌<◌, ◌≤◌}
 use native.Mathlib.Nat.{add-zero, zero-add}
 use native.Mathlib.Numerals.{add-one}
 use native.Mathlib.Omega.{arith}
@@ -108,13 +108,11 @@ entry_at : (x : ℕ) → x < 256 → get_or entries x 0 ≡ 16 * (in_byte x).clo
 unfolding entries entry_of
 entry_at x l = table_get_d entry_of 256 x 0 l
 
-pub entry_is : (t : List ℕ) (x : ℕ) → t ≡ entries → x < 256 → Entry x (get_or t x 0)
-entry_is t x h l =
-    let e : get_or t x 0 ≡ 16 * (in_byte x).closings + (in_byte x).openings = rw h (entry_at x l) in
+-- y is the byte x as an index
+pub entry_is : {t : List ℕ} {x y r : ℕ} → t ≡ entries → x < 256 → y ≡ x → r ≡ get_or t y 0 → Entry x r
+entry_is {t} {x} {y} {r} h l i q =
+    let e : r ≡ 16 * (in_byte x).closings + (in_byte x).openings = q ∙ rw (i, h) (entry_at x l) in
     let m = unpaired_most (closes_in x) 8 0 in
-    let u : get_or t x 0 / 16 ≡ (in_byte x).closings = omega arith in
-    let v : get_or t x 0 % 16 ≡ (in_byte x).openings = omega arith in
+    let u : r / 16 ≡ (in_byte x).closings = omega arith in
+    let v : r % 16 ≡ (in_byte x).openings = omega arith in
     record { upper = u; lower = v; few_close = rw u m.0; few_open = rw v m.1 }
-
-pub entry_fits_lem : (t : List ℕ) (x : ℕ) → t ≡ entries → x < 256 → get_or t x 0 < 2 ^ 64
-entry_fits_lem t x h l = rw h (omega (arith, entry_at x l, unpaired_most (closes_in x) 8 0))

@@ -7,17 +7,17 @@ use crate::bytes::{entries, entry};
 use crate::scans::Scan;
 
 // From position p back to e, with d that wait, bit by bit.
+#[tactic(auto, using(crate::proofs::Loops::coming_start, crate::proofs::Loops::coming_opens, crate::proofs::Loops::coming_closes, crate::proofs::Loops::coming_stuck, crate::proofs::Loops::coming_end))]
 pub fn behind_bits(s: &[u8], e: usize, p: usize, d: usize) -> Scan
     requires { (e ≤ p) × (p + d < 2 ^ 64) }
     ensures { result ≡ behind s.now e p d }
 {
-    let mut k = p;
     let mut depth = d;
-    while e < k {
-        if bits::bit(s, k - 1) == 0 {
+    for k in (e..p).rev() {
+        if bits::bit(s, k) == 0 {
             if depth == 0 {
                 return Scan {
-                    left: k - e,
+                    left: k + 1 - e,
                     depth: 0,
                 };
             }
@@ -25,7 +25,6 @@ pub fn behind_bits(s: &[u8], e: usize, p: usize, d: usize) -> Scan
         } else {
             depth += 1;
         }
-        k -= 1;
     }
     Scan { left: 0, depth }
 }
@@ -40,19 +39,18 @@ pub fn behind_bytes(s: &[u8], k: usize, d: usize) -> Scan
     behind_by(&t, s, k, d)
 }
 
+#[tactic(auto, using(crate::proofs::Loops::coming_start, crate::proofs::Loops::coming_byte, crate::proofs::Loops::coming_rest, crate::proofs::Loops::coming_end))]
 fn behind_by(t: &[u8; 256], s: &[u8], k: usize, d: usize) -> Scan
     requires { (t.now ≡ entries) × ((k ≤ length s.now) × (8 * k + d < 2 ^ 64)) }
     ensures { result ≡ behind s.now 0 (8 * k) d }
 {
-    let mut at = k;
     let mut depth = d;
-    while 0 < at {
-        let e = entry(t, s[at - 1]);
+    for at in (0..k).rev() {
+        let e = entry(t, s[at]);
         if depth < e % 16 {
-            break;
+            return behind_bits(s, 0, 8 * (at + 1), depth);
         }
         depth = depth - e % 16 + e / 16;
-        at -= 1;
     }
-    behind_bits(s, 0, 8 * at, depth)
+    Scan { left: 0, depth }
 }

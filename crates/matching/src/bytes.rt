@@ -7,7 +7,7 @@ pub fn entry(t: &[u8; 256], x: u8) -> usize
     requires { t.now ≡ entries }
     ensures { Entry x result }
 {
-    t[x as usize] as usize
+    usize::from(t[usize::from(x)])
 }
 
 // The entries of all bytes: in the upper half of each the unpaired closings, in the lower half the

@@ -5,19 +5,19 @@ ghost use Rattle.matching.specs.Scans.{ahead};
 
 use crate::bytes::{entries, entry};
 use crate::scans::Scan;
-use lending::least;
 
 // The scan from position p to n, with d that wait; with p where d is more, since no more brackets stand
 // before p. A few are passed at once where as many wait.
+#[tactic(auto, using(crate::proofs::Partners::ahead_none, crate::proofs::Partners::ahead_at_once, crate::proofs::Partners::ahead_rest))]
 pub fn ahead(s: &[u8], n: usize, p: usize, d: usize) -> Scan
     ensures { result ≡ ahead s.now n p (min d p) }
 {
-    let depth = least(d, p);
+    let depth = d.min(p);
     if n <= p {
         return Scan { left: 0, depth };
     }
     let k = n - p;
-    if k <= least(depth, bits::WIDEST) {
+    if k <= depth.min(bits::WIDEST) {
         return Scan {
             left: 0,
             depth: depth + k - 2 * bits::count_in(s, 1, p, k),
@@ -32,7 +32,7 @@ pub fn ahead_bytes(s: &[u8], n: usize, k: usize, d: usize) -> Scan
     ensures { result ≡ ahead s.now n (8 * k) d }
 {
     let t = entries();
-    ahead_by(&t, s, n, least(n / 8, s.len()), k, d)
+    ahead_by(&t, s, n, s.len().min(n / 8), k, d)
 }
 
 // From position p to n, with d that wait: bit by bit to the next byte, and from there on a byte at a time.
@@ -56,31 +56,32 @@ fn ahead_from(s: &[u8], n: usize, p: usize, d: usize) -> Scan
 }
 
 // The same by the entries t, where only the first m bytes are passed at once.
+#[tactic(auto, using(crate::proofs::Loops::going_start, crate::proofs::Loops::going_byte, crate::proofs::Loops::going_rest))]
 fn ahead_by(t: &[u8; 256], s: &[u8], n: usize, m: usize, k: usize, d: usize) -> Scan
     requires { (t.now ≡ entries) × ((m ≤ length s.now) × ((8 * m ≤ n) × ((8 * k ≤ n) × (d ≤ 8 * k)))) }
     ensures { result ≡ ahead s.now n (8 * k) d }
 {
-    let mut at = k;
+    let mut stop = m.max(k);
     let mut depth = d;
-    while at < m {
+    for at in k..m {
         let e = entry(t, s[at]);
         if depth < e / 16 {
+            stop = at;
             break;
         }
         depth = depth - e / 16 + e % 16;
-        at += 1;
     }
-    ahead_bits(s, n, 8 * at, depth)
+    ahead_bits(s, n, 8 * stop, depth)
 }
 
 // From position p to n, with d that wait, bit by bit.
+#[tactic(auto, using(crate::proofs::Loops::going_start, crate::proofs::Loops::going_opens, crate::proofs::Loops::going_closes, crate::proofs::Loops::going_stuck, crate::proofs::Loops::going_end))]
 fn ahead_bits(s: &[u8], n: usize, p: usize, d: usize) -> Scan
     requires { (p ≤ n) × (d ≤ p) }
     ensures { result ≡ ahead s.now n p d }
 {
-    let mut q = p;
     let mut depth = d;
-    while q < n {
+    for q in p..n {
         if bits::bit(s, q) == 0 {
             depth += 1;
         } else {
@@ -92,7 +93,6 @@ fn ahead_bits(s: &[u8], n: usize, p: usize, d: usize) -> Scan
             }
             depth -= 1;
         }
-        q += 1;
     }
     Scan { left: 0, depth }
 }

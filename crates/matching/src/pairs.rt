@@ -1,5 +1,5 @@
 // Bracket matching: 0 opens, 1 closes.
-ghost use Rattle.std.specs.Prelude.{◌≡◌, pred, ◌<◌, ◌≤◌};
+ghost use Rattle.std.specs.Prelude.{◌≡◌, ◌<◌, ◌≤◌};
 ghost use Rattle.bits.specs.Strings.{bit, brackets};
 ghost use Rattle.words.specs.Brackets.{balanced, mate, inner, closer};
 
@@ -7,6 +7,7 @@ use crate::backwards::{behind_bits, behind_bytes};
 use crate::forwards::{ahead, ahead_bytes};
 
 // Whether the first n bits are balanced: no closing without its opening, and none left open.
+#[tactic(auto, using(crate::proofs::Partners::balanced_past, crate::proofs::Partners::balanced_not, crate::proofs::Partners::balanced_so))]
 pub fn is_balanced(s: &[u8], n: usize) -> bool
     ensures { result ≡ balanced (brackets s.now) n }
 {
@@ -14,14 +15,12 @@ pub fn is_balanced(s: &[u8], n: usize) -> bool
         return false;
     }
     let rest = ahead_bytes(s, n, 0, 0);
-    if rest.left != 0 {
-        return false;
-    }
-    rest.depth == 0
+    rest.left == 0 && rest.depth == 0
 }
 
 // The position of the partner of bracket i: for an opening its closing before n, or n where there is
 // none; for a closing the innermost open bracket, or 0 where there is none.
+#[tactic(auto, using(crate::proofs::Partners::partner_far, crate::proofs::Partners::partner_ahead, crate::proofs::Partners::partner_behind))]
 pub fn partner(s: &[u8], n: usize, i: usize) -> usize
     ensures { result ≡ mate (brackets s.now) n i }
 {
@@ -31,7 +30,7 @@ pub fn partner(s: &[u8], n: usize, i: usize) -> usize
         }
         return closing(s, n, i);
     }
-    before(enclosing(s, i))
+    enclosing(s, i).saturating_sub(1)
 }
 
 // The innermost bracket that is open just before position i: 1 + its position; 0 where none is.
@@ -50,15 +49,10 @@ pub fn enclosing(s: &[u8], i: usize) -> usize
 }
 
 // The closing of the opening i, before n; n where there is none.
+#[tactic(auto, using(crate::proofs::Partners::left_most, crate::proofs::Partners::closing_is))]
 fn closing(s: &[u8], n: usize, i: usize) -> usize
     requires { (i < n) × (bit s.now i ≡ 0) }
     ensures { result ≡ closer (brackets s.now) n i }
 {
     n - ahead(s, n, i + 1, 0).left
-}
-
-fn before(x: usize) -> usize
-    ensures { result ≡ pred x }
-{
-    if x == 0 { 0 } else { x - 1 }
 }

@@ -32,7 +32,7 @@ pub fn turn_back(map: &[u8], place: Place) -> Result<Turn, Refusal>
 {
     check_place(map, place)?;
     let p = place.0 - 1;
-    Ok(turn_back_to(map, p, back_at(map, Family::Square, p)))
+    Ok(turn_back_to(map, p, back_at(map, Family::Round, p)))
 }
 
 // The next place of the area walk.

@@ -9,26 +9,26 @@ ghost use Rattle.format.specs.Packs.{Packs};
 ghost use Rattle.lending.specs.Lists.{Blank, Kept};
 ghost use Rattle.packing.specs.Later.{PacksLater};
 
-use answers::Packed;
+use answers::Refusal;
 use format::LONGEST;
 
 // Packs a drawing into `out`. Where a check declines, `out` stays as it was.
-pub fn pack(turning: &[u16], marks: &[u8], start: usize, work: &mut [u16], out: &mut [u8]) -> Packed
+pub fn pack(turning: &[u16], marks: &[u8], start: usize, work: &mut [u16], out: &mut [u8]) -> Result<usize, Refusal>
     ensures { Packs (lent turning.now marks.now start)
         work.old work.new out.old out.new (packed_means result) }
 {
     if !checking::lengths_fit(turning, marks) {
-        return Packed::Declined(1);
+        return Err(Refusal::Lists);
     }
     let k = 6 * marks.len();
     if work.len() < k {
-        return Packed::Declined(2);
+        return Err(Refusal::Room);
     }
     if out.len() < LONGEST {
-        return Packed::Declined(2);
+        return Err(Refusal::Room);
     }
     if !checking::in_range(turning, marks, start) {
-        return Packed::Declined(3);
+        return Err(Refusal::Range);
     }
     lending::clear(work, k);
     let packed = checked(turning, marks, start, work, out);
@@ -37,7 +37,7 @@ pub fn pack(turning: &[u16], marks: &[u8], start: usize, work: &mut [u16], out: 
 }
 
 // Checks 4 to 6, and the rest.
-fn checked(turning: &[u16], marks: &[u8], start: usize, work: &mut [u16], out: &mut [u8]) -> Packed
+fn checked(turning: &[u16], marks: &[u8], start: usize, work: &mut [u16], out: &mut [u8]) -> Result<usize, Refusal>
     requires { LengthsFit (lent turning.now marks.now start)
         × InRange (lent turning.now marks.now start)
         × Blank (3 * length turning.now) work.old
@@ -47,13 +47,11 @@ fn checked(turning: &[u16], marks: &[u8], start: usize, work: &mut [u16], out: &
     ensures kept { Kept (6 * length marks.now) work.old work.new }
 {
     if !checking::is_distinct(turning, work) {
-        return Packed::Declined(4);
+        return Err(Refusal::Repeated);
     }
-    let Some(n) = reaching::joined_points(turning, marks, work) else {
-        return Packed::Declined(5);
-    };
+    let n = reaching::joined_points(turning, marks, work).ok_or(Refusal::Apart)?;
     if n <= checking::count_marks(marks) {
-        return Packed::Declined(6);
+        return Err(Refusal::ManyMarks);
     }
     finish(turning, marks, start, n, work, out)
 }
@@ -66,7 +64,7 @@ fn finish(
     n: usize,
     work: &mut [u16],
     out: &mut [u8],
-) -> Packed
+) -> Result<usize, Refusal>
     requires { PassesSix (lent turning.now marks.now start)
         × (n ≡ cells (lent turning.now marks.now start) Kind.point)
         × Blank (3 * length turning.now) work.old
@@ -78,7 +76,7 @@ fn finish(
     touring::tour(turning, marks, start, work);
     touring::seconds(work, 2 * marks.len());
     match crossing::find_crossing(marks, work) {
-        Some((a, b)) => Packed::Crossing(a, b),
-        None => Packed::Length(writing::write_map(marks, n, work, out)),
+        Some((a, b)) => Err(Refusal::Crossing(a, b)),
+        None => Ok(writing::write_map(marks, n, work, out)),
     }
 }

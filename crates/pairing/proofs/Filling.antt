@@ -23,16 +23,14 @@ use Rattle.bits.specs.Letters.{family_bit}
 use Rattle.bits.proofs.Laws.{bit_below_2}
 use Rattle.bits.proofs.Letters.{family_has}
 use Rattle.pairing.specs.Paired.{word_at, Pairable, mates_of, numbers_of}
-use Rattle.pairing.specs.Passing.{Lists, Begun, Passable, Passes}
+use Rattle.pairing.specs.declared.pass.Stacks.{Stacks}
+use Rattle.pairing.specs.Passing.{lists, Begun, Passable, Passes}
 use Rattle.pairing.proofs.Pairs.{paired_end}
 use Rattle.pairing.proofs.Passed.{Told, Known, known_start, known_passable, known_more}
 use Rattle.pairing.proofs.Unread.{Unread, unread_start, unread_few, unread_more, unread_told}
 
 abbrev pub Listed : Family → Word → List ℕ → ℕ → List ℕ → Type 0
 Listed K w old p l = Filled (number (seen K w)) w.size old p l
-
-abbrev pub lists : List ℕ → List ℕ → List ℕ → List ℕ → List ℕ → List ℕ → Lists
-lists ts ns es os ls ms = record { top = ts; number = ns; reached = es; opened = os; labels = ls; mates = ms }
 
 module _ (a : List ℕ) (n : ℕ) (t us₀ ms₀ ss₀ rs₀ : List ℕ) where
   abbrev w : Word
@@ -42,29 +40,29 @@ module _ (a : List ℕ) (n : ℕ) (t us₀ ms₀ ss₀ rs₀ : List ℕ) where
   unfolding word_at
   sized = refl
 
-  pub record Filling (ts ns es os ls us ms ss rs : List ℕ) (p : ℕ) : Type 0 where
+  pub record Filling (S : Stacks) (us ms ss rs : List ℕ) (p : ℕ) : Type 0 where
     pub asked : Pairable (word_at a n t us₀) us₀
     pub few : n ≤ 4096
     pub within : p ≤ n
-    pub known : Known (word_at a n t us₀) ms₀ p (lists ts ns es os ls ms)
+    pub known : Known (word_at a n t us₀) ms₀ p (lists S ms)
     pub unread : Unread a us₀ p us
     pub squares : Listed square (word_at a n t us₀) ss₀ p ss
     pub rounds : Listed round (word_at a n t us₀) rs₀ p rs
 
-  pub filling_start : (ts ns es os ls : List ℕ) → Pairable (word_at a n t us₀) us₀ → Begun (word_at a n t us₀) (lists ts ns es os ls ms₀)
-      → 2 ≤ length us₀ → 4096 ≤ length ss₀ → 4096 ≤ length rs₀ → Filling ts ns es os ls us₀ ms₀ ss₀ rs₀ 0
-  filling_start ts ns es os ls A B lu ls' lr =
+  pub filling_start : (S : Stacks) → Pairable (word_at a n t us₀) us₀ → Begun (word_at a n t us₀) (lists S ms₀)
+      → 2 ≤ length us₀ → 4096 ≤ length ss₀ → 4096 ≤ length rs₀ → Filling S us₀ ms₀ ss₀ rs₀ 0
+  filling_start S A B lu ls' lr =
       record {
         asked = A;
         few = omega (arith, sized, A.few);
         within = omega arith;
-        known = known_start w A.few A.nested (lists ts ns es os ls ms₀) B;
+        known = known_start w A.few A.nested (lists S ms₀) B;
         unread = unread_start a us₀ lu;
         squares = filled_start (number (seen square w)) w.size ss₀ (omega (arith, A.few));
         rounds = filled_start (number (seen round w)) w.size rs₀ (omega (arith, A.few));
       }
 
-  module _ (ts ns es os ls us ms ss rs : List ℕ) (p : ℕ) (I : Filling ts ns es os ls us ms ss rs p) where
+  module _ (S : Stacks) (us ms ss rs : List ℕ) (p : ℕ) (I : Filling S us ms ss rs p) where
     ended : n ≤ p → w.size ≡ p
     ended l = omega (arith, sized, I.within)
 
@@ -107,15 +105,15 @@ module _ (a : List ℕ) (n : ℕ) (t us₀ ms₀ ss₀ rs₀ : List ℕ) where
             let e : x ≡ family_bit K = family.1 in
             unread_told a us₀ us p I.unread K (sym hx ∙ e) n v t (hv ∙ ap (λ y. bit t (get_or us y 0)) e)
 
-        pub filling_passable : Passable x v p (lists ts ns es os ls ms)
+        pub filling_passable : Passable x v p (lists S ms)
         filling_passable =
             let K = family.0 in
             let e : x ≡ family_bit K = family.1 in
-            rw e (known_passable w I.asked.few I.asked.nested ms₀ p (lists ts ns es os ls ms) I.known (in_word l) K v read)
+            rw e (known_passable w I.asked.few I.asked.nested ms₀ p (lists S ms) I.known (in_word l) K v read)
 
-        pub filling_more : (ts' ns' es' os' ls' ms' : List ℕ) → Passes x v p (lists ts ns es os ls ms) (lists ts' ns' es' os' ls' ms')
-            → Filling ts' ns' es' os' ls' (set us x (get_or us x 0 + 1)) ms' (set ss p (get_or ns 0 0)) (set rs p (get_or ns 1 0)) (p + 1)
-        filling_more ts' ns' es' os' ls' ms' T =
+        pub filling_more : (S' : Stacks) (ms' : List ℕ) → Passes x v p (lists S ms) (lists S' ms')
+            → Filling S' (set us x (get_or us x 0 + 1)) ms' (set ss p (get_or S.number 0 0)) (set rs p (get_or S.number 1 0)) (p + 1)
+        filling_more S' ms' T =
             let K = family.0 in
             let e : x ≡ family_bit K = family.1 in
             let here : p < w.size = in_word l in
@@ -124,8 +122,8 @@ module _ (a : List ℕ) (n : ℕ) (t us₀ ms₀ ss₀ rs₀ : List ℕ) where
               few = I.few;
               within = omega arith;
               known =
-                  known_more w I.asked.few I.asked.nested ms₀ p (lists ts ns es os ls ms) I.known here K v read (lists ts' ns' es' os' ls' ms') (rw e at T);
+                  known_more w I.asked.few I.asked.nested ms₀ p (lists S ms) I.known here K v read (lists S' ms') (rw e at T);
               unread = rw e (unread_more a us₀ us p I.unread K (sym hx ∙ e));
-              squares = filled_more (number (seen square w)) w.size ss₀ p ss I.squares (get_or ns 0 0) here (I.known.numbered square);
-              rounds = filled_more (number (seen round w)) w.size rs₀ p rs I.rounds (get_or ns 1 0) here (I.known.numbered round);
+              squares = filled_more (number (seen square w)) w.size ss₀ p ss I.squares (get_or S.number 0 0) here (I.known.numbered square);
+              rounds = filled_more (number (seen round w)) w.size rs₀ p rs I.rounds (get_or S.number 1 0) here (I.known.numbered round);
             }

@@ -1,6 +1,6 @@
 -- Passing one bracket: what the code does, and what that means in a word that is balanced in both families.
 --
--- entry_room, label_room == the entries that `passed` reads are there, whatever was stored above the stack
+-- entry_room, label_room == the entries that `pass` reads are there, whatever was stored above the stack
 -- passes_is       == what it leaves
 -- begun_is        == so the lists that `pair` makes are begun
 -- opened_few      == no more brackets open than there are letters
@@ -30,28 +30,29 @@ use Rattle.words.proofs.Halves.{openings_both}
 use Rattle.bits.specs.Letters.{family_bit}
 use Rattle.bits.proofs.Letters.{family_small, family_told}
 use Rattle.pairing.specs.Paired.{most_letters, opened_in, Pairable}
-use Rattle.pairing.specs.Passing.{Lists, bottom, stack_room, Ones, Begun, partner, Passable, Passes}
+use Rattle.pairing.specs.declared.pass.Stacks.{Stacks}
+use Rattle.pairing.specs.Passing.{Lists, lists, bottom, stack_room, Ones, Begun, partner, Passable, Passes}
 use Rattle.pairing.proofs.Stacks.{Stacked, stacked_start, stacked_number, stacked_inner, stacked_aside, stacked_stays, stacked_passes}
 use Rattle.pairing.proofs.Pairs.{Paired, paired_start, paired_opens, paired_closes}
 
 -- ---- the code
-module _ (x v p : ℕ) (ts ns rs os ls ms : List ℕ) where
-  pub entry_room : (y : ℕ) → Passable x v p (record { top = ts; number = ns; reached = rs; opened = os; labels = ls; mates = ms })
-      → get_or ts x 0 + 1 - v < length (set os (get_or ts x 0 + 1) y)
-  entry_room y P = omega (arith, P.opened, length-set os (get_or ts x 0 + 1) y)
+module _ (x v p : ℕ) (S : Stacks) (ms : List ℕ) where
+  pub entry_room : (y : ℕ) → Passable x v p (lists S ms)
+      → get_or S.top x 0 + 1 - v < length (set S.opened (get_or S.top x 0 + 1) y)
+  entry_room y P = omega (arith, P.opened, length-set S.opened (get_or S.top x 0 + 1) y)
 
-  pub label_room : (y : ℕ) → Passable x v p (record { top = ts; number = ns; reached = rs; opened = os; labels = ls; mates = ms })
-      → get_or ts x 0 + 1 - v - v < length (set ls (get_or ts x 0 + 1) y)
-  label_room y P = omega (arith, P.labelled, length-set ls (get_or ts x 0 + 1) y)
+  pub label_room : (y : ℕ) → Passable x v p (lists S ms)
+      → get_or S.top x 0 + 1 - v - v < length (set S.labels (get_or S.top x 0 + 1) y)
+  label_room y P = omega (arith, P.labelled, length-set S.labels (get_or S.top x 0 + 1) y)
 
-  pub passes_is : (q : ℕ) → q ≡ get_or (set os (get_or ts x 0 + 1) p) (get_or ts x 0 + 1 - v) 0
-      → Passes x v p (record { top = ts; number = ns; reached = rs; opened = os; labels = ls; mates = ms })
+  pub passes_is : (q : ℕ) → q ≡ get_or (set S.opened (get_or S.top x 0 + 1) p) (get_or S.top x 0 + 1 - v) 0
+      → Passes x v p (lists S ms)
       (record {
-        top = set ts x (get_or ts x 0 + 1 - v - v);
-        number = set ns x (get_or (set ls (get_or ts x 0 + 1) (get_or rs x 0 + 1)) (get_or ts x 0 + 1 - v - v) 0);
-        reached = set rs x (get_or rs x 0 + 1 - v);
-        opened = set os (get_or ts x 0 + 1) p;
-        labels = set ls (get_or ts x 0 + 1) (get_or rs x 0 + 1);
+        top = set S.top x (get_or S.top x 0 + 1 - v - v);
+        number = set S.number x (get_or (set S.labels (get_or S.top x 0 + 1) (get_or S.reached x 0 + 1)) (get_or S.top x 0 + 1 - v - v) 0);
+        reached = set S.reached x (get_or S.reached x 0 + 1 - v);
+        opened = set S.opened (get_or S.top x 0 + 1) p;
+        labels = set S.labels (get_or S.top x 0 + 1) (get_or S.reached x 0 + 1);
         mates = set (set ms q p) p q;
       })
   passes_is q h = rw h (record { top = refl; number = refl; reached = refl; opened = refl; labels = refl; mates = refl })

@@ -4,6 +4,7 @@
 --                    last; beside each, `labels` has the number that it opened, and 1 at the stack's bottom. At the bit of a family,
 --                    `top` has where its stack ends, `number` the label there, which is the number of a position there, and `reached`
 --                    how many numbers there are so far. And the mates
+-- lists s ms      == the code's stacks, and the mates
 -- bottom K w      == where the stack of a family begins: that of the round brackets after that of the square ones, which may all be
 --                    open at once, and one entry that is never read
 -- stack_room       == so many entries do for both stacks of every word
@@ -19,6 +20,7 @@ use Rattle.words.specs.declared.family.Family.{Family}
 use Rattle.words.specs.declared.family.Family.TheVariants.{Round as round, Square as square}
 use Rattle.words.specs.Word.{Word}
 use Rattle.pairing.specs.Paired.{most_letters, opened_in}
+use Rattle.pairing.specs.declared.pass.Stacks.{Stacks}
 
 pub record Lists : Type 0 where
   pub top : List ℕ
@@ -27,6 +29,10 @@ pub record Lists : Type 0 where
   pub opened : List ℕ
   pub labels : List ℕ
   pub mates : List ℕ
+
+abbrev pub lists : Stacks → List ℕ → Lists
+lists s ms =
+    record { top = s.top; number = s.number; reached = s.reached; opened = s.opened; labels = s.labels; mates = ms }
 
 abbrev pub bottom : Family → Word → ℕ
 bottom round w = opened_in square w + 2

@@ -12,9 +12,17 @@ ghost use Rattle.std.specs.Prelude.{◌≡◌, [], ◌∷◌, ◌≤◌, length}
 ghost use Rattle.answers.specs.Lent.{laid};
 ghost use Rattle.words.specs.declared.family.Family.TheVariants.{Round as round, Square as square};
 ghost use Rattle.pairing.specs.Paired.{word_at, opened_in, Pairable, mates_of, numbers_of};
-ghost use Rattle.pairing.specs.Passing.{Begun, Passable, Passes};
+ghost use Rattle.pairing.specs.Passing.{lists, Begun, Passable, Passes};
 
-use lending::wide;
+// The stacks of both families, on the way: specs/Passing.antt says what each list holds.
+#[derive(Drop)]
+pub struct Stacks {
+    pub top: [usize; 2],
+    pub number: [u16; 2],
+    pub reached: [usize; 2],
+    pub opened: [u16; 2052],
+    pub labels: [u16; 2052],
+}
 
 // Fills the lists of a word of n letters, of which `opening` are square brackets that open: the mate of every position, and its
 // number by the square and by the round brackets. In `strings` the square brackets begin at bit `bstar`, the round ones at bit `b`.
@@ -39,21 +47,19 @@ pub fn pair(
         ≡ laid (numbers_of round (word_at a.now n strings.now (bstar ∷ b ∷ []))) rounds.old }
 {
     let round = opening + 2;
-    let mut top = [0, round];
-    let mut number = [1u16; 2];
-    let mut reached = [1usize; 2];
-    let mut opened = [0u16; 2052];
-    let mut labels = [1u16; 2052];
+    let mut stacks = Stacks {
+        top: [0, round],
+        number: [1; 2],
+        reached: [1; 2],
+        opened: [0; 2052],
+        labels: [1; 2052],
+    };
     let mut unread = [bstar, b];
     fill(
         a,
         n,
         strings,
-        &mut top,
-        &mut number,
-        &mut reached,
-        &mut opened,
-        &mut labels,
+        &mut stacks,
         &mut unread,
         mates,
         squares,
@@ -67,19 +73,14 @@ fn fill(
     a: &[u8],
     n: usize,
     strings: &[u8],
-    top: &mut [usize; 2],
-    number: &mut [u16; 2],
-    reached: &mut [usize; 2],
-    opened: &mut [u16; 2052],
-    labels: &mut [u16; 2052],
+    stacks: &mut Stacks,
     unread: &mut [usize; 2],
     mates: &mut [u16],
     squares: &mut [u16],
     rounds: &mut [u16],
 )
     requires { Pairable (word_at a.now n strings.now unread.old) unread.old
-        × Begun (word_at a.now n strings.now unread.old)
-        (record { top = top.old; number = number.old; reached = reached.old; opened = opened.old; labels = labels.old; mates = mates.old })
+        × Begun (word_at a.now n strings.now unread.old) (lists stacks.old mates.old)
         × (2 ≤ length unread.old) × (4096 ≤ length squares.old) × (4096 ≤ length rounds.old) }
     ensures mates_after { mates.new
         ≡ laid (mates_of (word_at a.now n strings.now unread.old)) mates.old }
@@ -88,61 +89,35 @@ fn fill(
     ensures rounds_after { rounds.new
         ≡ laid (numbers_of round (word_at a.now n strings.now unread.old)) rounds.old }
 {
-    let mut p = 0;
-    while p < n {
+    for p in 0..n {
         let x = bits::bit(a, p);
         let v = bits::bit(strings, unread[x]);
         unread[x] += 1;
-        rounds[p] = number[1];
-        squares[p] = number[0];
-        passed(x, v, p, top, number, reached, opened, labels, mates);
-        p += 1;
+        rounds[p] = stacks.number[1];
+        squares[p] = stacks.number[0];
+        stacks.pass(x, v, p, mates);
     }
 }
 
-// Passes the bracket at position p, of the family with the bit x: it opens where v is 0. An opening is put on the stack of its
-// family with the number that it reaches. A closing takes the innermost open bracket off: they are mates.
-fn passed(
-    x: usize,
-    v: usize,
-    p: usize,
-    top: &mut [usize; 2],
-    number: &mut [u16; 2],
-    reached: &mut [usize; 2],
-    opened: &mut [u16],
-    labels: &mut [u16],
-    mates: &mut [u16],
-)
-    requires { Passable x v p
-        (record { top = top.old; number = number.old; reached = reached.old; opened = opened.old; labels = labels.old; mates = mates.old }) }
-    ensures { Passes x v p
-        (record {
-          top = top.old;
-          number = number.old;
-          reached = reached.old;
-          opened = opened.old;
-          labels = labels.old;
-          mates = mates.old;
-        })
-        (record {
-          top = top.new;
-          number = number.new;
-          reached = reached.new;
-          opened = opened.new;
-          labels = labels.new;
-          mates = mates.new;
-        }) }
-{
-    let t = top[x];
-    let k = reached[x] + 1;
-    let u = t + 1 - v;
-    let end = u - v;
-    opened[t + 1] = p as u16;
-    labels[t + 1] = k as u16;
-    let q = wide(opened[u]);
-    number[x] = labels[end];
-    top[x] = end;
-    reached[x] = k - v;
-    mates[q] = p as u16;
-    mates[p] = q as u16;
+impl Stacks {
+    // Passes the bracket at position p, of the family with the bit x: it opens where v is 0. An opening is put on the stack of its
+    // family with the number that it reaches. A closing takes the innermost open bracket off: they are mates.
+    #[tactic(auto, using(crate::proofs::Passed::entry_room, crate::proofs::Passed::label_room, crate::proofs::Passed::passes_is))]
+    fn pass(&mut self, x: usize, v: usize, p: usize, mates: &mut [u16])
+        requires { Passable x v p (lists self.old mates.old) }
+        ensures { Passes x v p (lists self.old mates.old) (lists self.new mates.new) }
+    {
+        let t = self.top[x];
+        let k = self.reached[x] + 1;
+        let u = t + 1 - v;
+        let end = u - v;
+        self.opened[t + 1] = p as u16;
+        self.labels[t + 1] = k as u16;
+        let q = usize::from(self.opened[u]);
+        self.number[x] = self.labels[end];
+        self.top[x] = end;
+        self.reached[x] = k - v;
+        mates[q] = p as u16;
+        mates[p] = q as u16;
+    }
 }

@@ -15,7 +15,10 @@ pub extern "C" fn pmap_marks(turning: &[u16], marks: &mut [u8], work: &mut [u16]
     ensures { (s : ℕ) → Suggests (lent turning.now marks.old s)
         work.old work.new marks.new result }
 {
-    suggesting::suggest(turning, marks, work)
+    match suggesting::suggest(turning, marks, work) {
+        Ok(()) => 0,
+        Err(e) => u8::from(e),
+    }
 }
 
 // The map of a drawing goes to `out`, its length to a slot. With 7 the pair stands in the bits above the status.

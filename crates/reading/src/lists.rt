@@ -9,7 +9,7 @@ ghost use Rattle.text.specs.Input.{drawing_or17, read_lines, read_text};
 
 use crate::lines::{begins, line};
 use crate::parts::Row;
-use answers::Parsed;
+use answers::Refusal;
 use format::{MOST_BORDERS, MOST_ENDS};
 
 // The line of names has 25 bytes.

@@ -19,9 +19,8 @@ pub fn schedule(map: &[u8], out: &mut [u8; ROOM]) -> usize
     ensures value { result ≡ length (schedule_of map.now) }
     ensures out_after { out.new ≡ laid (schedule_of map.now) out.old }
 {
-    let k = opening::refusal(map);
-    if k != 0 {
-        return refused(k, out);
+    if let Err(e) = opening::check(map) {
+        return refused(u8::from(e), out);
     }
     put_schedule(map, out)
 }
