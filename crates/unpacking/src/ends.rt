@@ -6,7 +6,6 @@ ghost use Rattle.surveying.specs.Surveyed.{Mates};
 ghost use Rattle.unpacking.specs.Ended.{Ends};
 
 use layout::bits_a;
-use lending::wide;
 
 // Writes the end at each position.
 pub fn write_ends(map: &[u8], mates: &[u16], ends: &mut [u16])
@@ -16,14 +15,12 @@ pub fn write_ends(map: &[u8], mates: &[u16], ends: &mut [u16])
 {
     let n = bits_a(map);
     let mut even = 0;
-    let mut p = 0;
-    while p < n {
-        let q = wide(mates[p]);
-        ends[p] = end_by(p, q, even, wide(ends[q])) as u16;
+    for p in 0..n {
+        let q = usize::from(mates[p]);
+        ends[p] = end_by(p, q, even, usize::from(ends[q])) as u16;
         if p < q {
             even += 2;
         }
-        p += 1;
     }
 }
 

@@ -14,7 +14,6 @@ ghost use Rattle.unpacking.specs.Ended.{Ends};
 use crate::ends::write_ends;
 use answers::Refusal;
 use layout::{bits_a, borders, part_a};
-use lending::wide;
 use surveying::survey;
 use walking::after;
 
@@ -79,14 +78,12 @@ fn write_drawing(map: &[u8], mates: &[u16], ends: &[u16], turning: &mut [u16], m
 {
     let n = bits_a(map);
     let a = part_a(map);
-    let mut p = 0;
-    while p < n {
+    for p in 0..n {
         let mark = bits::bit(a, p);
-        let h = wide(ends[p]);
-        let q = round_mate(mark, p, wide(mates[p]));
+        let h = usize::from(ends[p]);
+        let q = round_mate(mark, p, usize::from(mates[p]));
         turning[h] = ends[after(n, q)];
         marks[h / 2] = mark as u8;
-        p += 1;
     }
 }
 

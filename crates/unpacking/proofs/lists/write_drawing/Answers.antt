@@ -1,4 +1,5 @@
 use mathlib.Core.Path.{refl}
+use native.Mathlib.Omega.{arith}
 use borrow.Author.Rules.{rules}
 use Rattle.unpacking.proofs.Written.{writing_start, mate_few, round_below, turning_room, marks_room, writing_more, writing_turning, writing_marks}
 use Rattle.unpacking.proofs.lists.write_drawing.Goals as goal
@@ -20,8 +21,8 @@ bounds-marks-h c = search marks_room
 
 pub loop-p-preserved : goal.loop-p-preserved
 loop-p-preserved c =
-    writing_more _ _ _ _ _ _ _ c.loop-p.invariant c.loop-p-test.true _ _ _ _ _ _ _ _ _ c.requires.map_value.1 c.requires.map_value.2 c.requires.in_bounds.0
-    c.part_a-a.ensures c.bit-mark.ensures.0 c.wide-h.ensures.0 c.wide.ensures.0 c.round_mate-q.ensures c.after.ensures.0 c.after.ensures.1 refl
+    writing_more _ _ _ _ _ _ _ c.loop-p.invariant (omega arith) _ _ _ _ _ _ _ _ _ c.requires.map_value.1 c.requires.map_value.2 c.requires.in_bounds.0
+    c.part_a-a.ensures c.bit-mark.ensures.0 c.from-h.ensures c.from.ensures c.round_mate-q.ensures c.after.ensures.0 c.after.ensures.1 refl
 
 pub returns : goal.returns
 returns c =
