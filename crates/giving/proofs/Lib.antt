@@ -1,2 +1,2 @@
 -- Statuses and slots for a C host: the laws that a caller meets the requirements with.
-pub mod Slots
+pub mod Room

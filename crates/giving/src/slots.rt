@@ -66,7 +66,8 @@ impl Slotted<usize> for Place {
     ghost fits = { λ p. Unit {0} };
 
     fn slotted(self) -> usize {
-        self.0
+        let Place(left) = self;
+        left
     }
 }
 
@@ -112,7 +113,7 @@ pub fn give_turn(a: Result<Turn, Refusal>, out: &mut u16, round: &mut u8) -> u8
             *round = u8::from(turn.round);
             0
         }
-        Err(e) => u8::from(e),
+        Err(declined) => u8::from(declined),
     }
 }
 
@@ -130,6 +131,6 @@ pub fn give_size(a: Result<Size, Refusal>, m: &mut u16, n: &mut u16) -> u8
             *n = size.n as u16;
             0
         }
-        Err(e) => u8::from(e),
+        Err(refusal) => u8::from(refusal),
     }
 }

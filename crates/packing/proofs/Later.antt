@@ -18,7 +18,6 @@ use Rattle.count.specs.Below.{Decides, pick}
 use Rattle.count.proofs.Logic.{true_or_false, true_not_false, pick_yes, pick_no}
 use Rattle.answers.specs.Answer.{answer, refused_with, refused, told, Kind}
 use Rattle.answers.specs.Lent.{laid, leaves}
-use Rattle.answers.specs.Means.{packed_means}
 use Rattle.drawing.specs.Drawing.{Drawing, cells, lent}
 use Rattle.drawing.specs.Checks.{LengthsFit, InRange, PassesSix, distinct, joined, few_marks, crosses, first_crossing, tour_of, crossing_in, mark_count}
 use Rattle.drawing.proofs.Checks.{distinct_decides, few_decides}
@@ -32,7 +31,6 @@ use Rattle.lending.specs.Lists.{Kept}
 use Rattle.checking.specs.Lent.{Ranged, Differ, Turns}
 use Rattle.checking.proofs.Decided.{passes, fails}
 use Rattle.checking.proofs.Laws.{ranged_from, turns_from, distinct_is}
-use Rattle.answers.specs.declared.cases.Packed.TheVariants as the_case
 use Rattle.crossing.specs.Finding.{found_means, chart_tour}
 use Rattle.writing.specs.Writing.{chart_bytes}
 use Rattle.packing.proofs.Charting.{Chart, chart_bytes_lem, chart_alike}
@@ -40,7 +38,7 @@ use Rattle.packing.specs.Later.{later_checks, later_of, PacksLater}
 
 -- an early return, by check i of those after 3, which carries nothing
 declines : (D : Drawing) (i k : ℕ) (old : List ℕ) → Passed (later_checks D) i → (check_at (later_checks D) i).test ≡ false
-    → (check_at (later_checks D) i).number ≡ k → (check_at (later_checks D) i).carries ≡ [] → PacksLater D (packed_means (the_case.Declined k)) old old
+    → (check_at (later_checks D) i).number ≡ k → (check_at (later_checks D) i).carries ≡ [] → PacksLater D (refused k) old old
 unfolding later_of leaves
 declines D i k old p f n c =
     let a : later_of D ≡ refused k = sym (refuses_at (later_checks D) (answer (packed_bytes D)) i p f) ∙ ap₂ refused_with n c in
@@ -61,7 +59,7 @@ module _ (ts ms : List ℕ) (s : ℕ) (F : LengthsFit (lent ts ms s)) (I : InRan
   checked_ranged = ranged_from ts ms s F.half I.entries
 
   module _ (r : Bool) (p : Decides r (Differ ts)) where
-    pub checked_4 : not r ≡ true → (old : List ℕ) → PacksLater (lent ts ms s) (packed_means (the_case.Declined 4)) old old
+    pub checked_4 : not r ≡ true → (old : List ℕ) → PacksLater (lent ts ms s) (refused 4) old old
     checked_4 h old = declines D 0 4 old tt (fails r (distinct D) (distinct_is ts ms s F.half r p) h) refl refl
 
     module _ (h : not r ≡ false) where
@@ -79,7 +77,7 @@ module _ (ts ms : List ℕ) (s : ℕ) (F : LengthsFit (lent ts ms s)) (I : InRan
               | inr f ↦ f
             ]
 
-        pub checked_5 : x ≡ None → (old : List ℕ) → PacksLater (lent ts ms s) (packed_means (the_case.Declined 5)) old old
+        pub checked_5 : x ≡ None → (old : List ℕ) → PacksLater (lent ts ms s) (refused 5) old old
         checked_5 z old = declines D 1 5 old (differ, tt) (joins_not z) refl refl
 
         module _ (n : ℕ) (k : x ≡ Some n) (m : ℕ) (M : (ts : List ℕ) (s : ℕ) → m ≡ mark_count (lent ts ms s)) where
@@ -93,7 +91,7 @@ module _ (ts ms : List ℕ) (s : ℕ) (F : LengthsFit (lent ts ms s)) (I : InRan
           pub checked_points : n ≡ cells (lent ts ms s) Kind.point
           checked_points = ap (λ o. unwrap_or o 0) (sym k ∙ N s ∙ pick_yes (joined D) (Some (cells D Kind.point)) None joins)
 
-          pub checked_6 : n ≤ m → (old : List ℕ) → PacksLater (lent ts ms s) (packed_means (the_case.Declined 6)) old old
+          pub checked_6 : n ≤ m → (old : List ℕ) → PacksLater (lent ts ms s) (refused 6) old old
           unfolding few_marks
           checked_6 l old =
               declines D 2 6 old (differ, (joins, tt)) (le-ltb (mark_count D) (cells D Kind.point) (omega (arith, checked_points, M ts s))) refl refl
@@ -130,7 +128,7 @@ module _ (ts ms : List ℕ) (s : ℕ) (six : PassesSix (lent ts ms s)) where
     found_is x Y = Y ∙ crossing_in_same (chart_tour ms w) (tour_of G) (chart_alike ts ms s six w C)
 
     pub finish_pair : (x : Option (ℕ × ℕ)) → found_means x ≡ crossing_in (chart_tour ms w) → (a b : ℕ) → x ≡ Some (a, b)
-        → (old : List ℕ) → PacksLater (lent ts ms s) (packed_means (the_case.Crossing a b)) old old
+        → (old : List ℕ) → PacksLater (lent ts ms s) (refused_with 7 (a ∷ b ∷ [])) old old
     unfolding later_of leaves
     finish_pair x Y a b f old =
         let is : a ∷ b ∷ [] ≡ first_crossing G = sym (ap found_means f) ∙ found_is x Y in
@@ -146,7 +144,7 @@ module _ (ts ms : List ℕ) (s : ℕ) (six : PassesSix (lent ts ms s)) where
     pub finish_none : (x : Option (ℕ × ℕ)) → found_means x ≡ crossing_in (chart_tour ms w) → x ≡ None → (n : ℕ) → n ≡ cells (lent ts ms s) Kind.point
         → (v : List ℕ) → Chart (lent ts ms s) v → (r : ℕ) (old new : List ℕ)
         → r ≡ length (chart_bytes n ms v) → new ≡ laid (chart_bytes n ms v) old
-        → PacksLater (lent ts ms s) (packed_means (the_case.Length r)) old new
+        → PacksLater (lent ts ms s) (answer r) old new
     unfolding later_of leaves
     finish_none x Y f n e v K r old new p q =
         let is : [] ≡ first_crossing G = sym (ap found_means f) ∙ found_is x Y in

@@ -16,14 +16,12 @@ use Rattle.answers.specs.Answer.{Answer, answer, refused_with, refused, told}
 use Rattle.answers.specs.Checks.{Check, check_at}
 use Rattle.answers.proofs.Steps.{Passed, stops_at, refuses_at, by_numbers, goes_on, goes_on_with}
 use Rattle.answers.specs.Lent.{cleared, laid, leaves}
-use Rattle.answers.specs.Means.{packed_means}
 use Rattle.drawing.specs.Drawing.{Drawing, borders, lent}
 use Rattle.drawing.specs.Checks.{InRange, lengths_fit, in_range}
 use Rattle.drawing.proofs.Checks.{range_decides}
 use Rattle.format.specs.Bytes.{longest}
 use Rattle.format.specs.Pack.{packed_bytes, room_fits, pack_checks, pack_refusal, pack_of, work_left}
 use Rattle.format.specs.Packs.{Packs}
-use Rattle.answers.specs.declared.cases.Packed.TheVariants as the_case
 use Rattle.lending.specs.Lists.{Kept}
 use Rattle.lending.proofs.Kept.{cleared_again}
 use Rattle.checking.proofs.Decided.{passes, fails}
@@ -32,7 +30,7 @@ use Rattle.packing.specs.Later.{later_checks, later_of, PacksLater}
 -- an early return, by check i: one of 1 to 3
 early : (D : Drawing) (work out : List ℕ) (i k : ℕ) → let cs : List Check = pack_checks D (length work) (length out) in
     Passed cs i → (check_at cs i).test ≡ false → (check_at cs i).number ≡ suc k → (check_at cs i).carries ≡ [] → k < 3
-    → Packs D work work out out (packed_means (the_case.Declined (suc k)))
+    → Packs D work work out out (refused (suc k))
 unfolding pack_refusal pack_of leaves
 early D work out i k p f n c l =
     let cs : List Check = pack_checks D (length work) (length out) in
@@ -53,19 +51,19 @@ module _ (ts ms : List ℕ) (s : ℕ) (old work : List ℕ) where
   E = lent ts ms s
 
   module _ (r : Bool) (p : (s : ℕ) → r ≡ lengths_fit (lent ts ms s)) where
-    pub pack_1 : not r ≡ true → Packs (lent ts ms s) work work old old (packed_means (the_case.Declined 1))
+    pub pack_1 : not r ≡ true → Packs (lent ts ms s) work work old old (refused 1)
     pack_1 h = early E work old 0 0 tt (fails r (lengths_fit E) (p s) h) refl refl (omega arith)
 
     module _ (h : not r ≡ false) where
       fit : lengths_fit E ≡ true
       fit = passes r (lengths_fit E) (p s) h
 
-      pub pack_long : length work < 6 * length ms → Packs (lent ts ms s) work work old old (packed_means (the_case.Declined 2))
+      pub pack_long : length work < 6 * length ms → Packs (lent ts ms s) work work old old (refused 2)
       unfolding borders
       pack_long l = early E work old 1 1 (fit, tt) (rw (lt-leb (6 * length ms) (length work) l)) refl refl (omega arith)
 
       module _ (l : 6 * length ms ≤ length work) where
-        pub pack_short : length old < longest → Packs (lent ts ms s) work work old old (packed_means (the_case.Declined 2))
+        pub pack_short : length old < longest → Packs (lent ts ms s) work work old old (refused 2)
         unfolding borders
         pack_short k =
             early E work old 1 1 (fit, tt) (rw (le-leb (6 * length ms) (length work) l, lt-leb longest (length old) k)) refl refl (omega arith)
@@ -75,7 +73,7 @@ module _ (ts ms : List ℕ) (s : ℕ) (old work : List ℕ) where
           unfolding borders
           room = rw (le-leb (6 * length ms) (length work) l, le-leb longest (length old) k)
 
-          pub pack_3 : not q ≡ true → Packs (lent ts ms s) work work old old (packed_means (the_case.Declined 3))
+          pub pack_3 : not q ≡ true → Packs (lent ts ms s) work work old old (refused 3)
           pack_3 b = early E work old 2 2 (fit, (room, tt)) (fails q (in_range E) g b) refl refl (omega arith)
 
           module _ (b : not q ≡ false) where

@@ -49,7 +49,9 @@ fn checked(turning: &[u16], marks: &[u8], start: usize, work: &mut [u16], out: &
     if !checking::is_distinct(turning, work) {
         return Err(Refusal::Repeated);
     }
-    let n = reaching::joined_points(turning, marks, work).ok_or(Refusal::Apart)?;
+    let Some(n) = reaching::joined_points(turning, marks, work) else {
+        return Err(Refusal::Apart);
+    };
     if n <= checking::count_marks(marks) {
         return Err(Refusal::ManyMarks);
     }

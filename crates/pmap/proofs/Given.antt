@@ -16,7 +16,7 @@ use Rattle.answers.specs.Lent.{leaves, itself}
 use Rattle.drawing.specs.Session.{Outcome}
 use Rattle.format.specs.Open.{open_of}
 use Rattle.format.proofs.Small.{cross_fits, turn_fits, turn_back_fits, along_fits, point_fits, area_fits, first_fits, size_fits_lem, neighbours_fit, joining_fits}
-use Rattle.giving.proofs.Slots.{place_slot, point_slot, area_slot, number_slot}
+use Rattle.giving.proofs.Room.{place_slot, point_slot, area_slot, number_slot}
 use Rattle.pmap.proofs.Bounds.{open_small}
 
 module _ {A : Type 0} where

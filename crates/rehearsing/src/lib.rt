@@ -4,7 +4,7 @@
 //
 // Conventions. The drawing is lent as packing takes it, the calls as the crate `sessions` takes them. The session's map
 // is the bytes that packing wrote, no more and no fewer. Where packing declines, no call is run, and the lists of
-// statuses and answers stay as they were. The session can still be declined by 2 or NO_CALL: then the map is written
+// statuses and answers stay as they were. The session can still be declined by 2 or 255: then the map is written
 // and those two lists stay. Nothing is asked of the caller.
 //
 // The contract speaks of the drawing and its book alone (document 01, "The drawing's book"): each status, each answer

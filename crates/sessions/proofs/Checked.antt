@@ -7,20 +7,23 @@
 -- Assumes nothing.
 use mathlib.Core.Path.{◌≡◌, sym, ap, ◌∙◌}
 use mathlib.Core.Bool.{Bool, true, false, not, ◌&&◌}
-use mathlib.Core.List.{List}
+use mathlib.Core.List.{List, []}
 use Prim.Native.Nat.{ℕ, ◌<◌, ◌≤◌}
 use native.Mathlib.Omega.{arith}
 use borrow.Author.Tests.{le-leb, leb-true, not-true, not-false}
 use lib.Dec.{leb}
 use lib.ListN.{length}
 use Rattle.count.proofs.Logic.{both, not_both}
+use Rattle.answers.proofs.Passing.{declines}
 use Rattle.answers.proofs.Steps.{refuses_at, answers_all}
-use Rattle.answers.specs.Answer.{Answer, answer, refused, told}
+use Rattle.answers.specs.Answer.{Answer, answer, refused_with, refused, told}
 use Rattle.answers.specs.Checks.{after}
 use Rattle.answers.specs.Lent.{laid, leaves}
 use Rattle.drawing.specs.Session.{Outcome}
-use Rattle.format.specs.Open.{open_refusal}
-use Rattle.format.proofs.Passes.{opened_opens, opened_declines, opened}
+use Rattle.format.specs.Open.{open_checks, open_refusal}
+use Rattle.format.proofs.Passes.{opened_opens, opened}
+use Rattle.opening.specs.Checks.{open_check}
+use Rattle.opening.proofs.Passed.{open_passes}
 use Rattle.format.specs.Calls.{map_session}
 use Rattle.format.specs.Sessions.{calls_of, are_calls, no_call, run_checks, ran_of, statuses_of, values_of}
 use Rattle.sessions.specs.Runs.{Leaves}
@@ -48,15 +51,15 @@ module _ (s : List ℕ) (first : ℕ) (ks : List ℕ) (k l : ℕ) where
   unfolding ran_of opened
   ran_opens e = opened_opens s (after (run_checks ks k l) (map_session s first (calls_of ks))) e
 
-  ran_declines : (open_refusal s ≡ 0 → ⊥) → ran_of s first ks k l ≡ refused (open_refusal s)
-  unfolding ran_of opened
-  ran_declines n = opened_declines s (after (run_checks ks k l) (map_session s first (calls_of ks))) n
+  ran_declines : (j : ℕ) (xs : List ℕ) → refused_with j xs ≡ open_check s → ran_of s first ks k l ≡ refused_with j xs
+  unfolding ran_of open_check
+  ran_declines j xs e = sym (declines (open_checks s) (after (run_checks ks k l) (map_session s first (calls_of ks))) j xs e)
 
 -- ---- what is answered, and what the lists hold
 module _ (a : Answer Outcome) (st an : List ℕ) where
-  given_declined : (j : ℕ) → a ≡ refused j → (refused j ≡ told (λ (o : Outcome). o.place) a) × ((st ≡ leaves (λ (o : Outcome). laid (statuses_of o)) a st) × (an ≡ leaves (λ (o : Outcome). laid (values_of o)) a an))
+  given_declined : (j : ℕ) (xs : List ℕ) → a ≡ refused_with j xs → (refused_with j xs ≡ told (λ (o : Outcome). o.place) a) × ((st ≡ leaves (λ (o : Outcome). laid (statuses_of o)) a st) × (an ≡ leaves (λ (o : Outcome). laid (values_of o)) a an))
   unfolding leaves
-  given_declined j e = (ap (told (λ (o : Outcome). o.place)) (sym e), (ap (λ x. leaves (λ (o : Outcome). laid (statuses_of o)) x st) (sym e), ap (λ x. leaves (λ (o : Outcome). laid (values_of o)) x an) (sym e)))
+  given_declined j xs e = (ap (told (λ (o : Outcome). o.place)) (sym e), (ap (λ x. leaves (λ (o : Outcome). laid (statuses_of o)) x st) (sym e), ap (λ x. leaves (λ (o : Outcome). laid (values_of o)) x an) (sym e)))
 
   given_run : (o : Outcome) (p : ℕ) (st' an' : List ℕ) → a ≡ answer o → Leaves o p st an st' an'
       → (answer p ≡ told (λ (o : Outcome). o.place) a) × ((st' ≡ leaves (λ (o : Outcome). laid (statuses_of o)) a st) × (an' ≡ leaves (λ (o : Outcome). laid (values_of o)) a an))
@@ -66,19 +69,19 @@ module _ (a : Answer Outcome) (st an : List ℕ) where
     (L.statuses ∙ ap (λ x. leaves (λ (o : Outcome). laid (statuses_of o)) x st) (sym e), L.answers ∙ ap (λ x. leaves (λ (o : Outcome). laid (values_of o)) x an) (sym e)),
   )
 
-module _ (s : List ℕ) (first : ℕ) (ks st an : List ℕ) (j : ℕ) (e : j ≡ open_refusal s) where
+module _ (s : List ℕ) (first : ℕ) (ks st an : List ℕ) where
   abbrev ran : Answer Outcome
   ran = ran_of s first ks (length st) (length an)
 
-  pub session_declines : (j ≡ 0 → ⊥) → (refused j ≡ told (λ (o : Outcome). o.place) ran) × ((st ≡ leaves (λ (o : Outcome). laid (statuses_of o)) ran st) × (an ≡ leaves (λ (o : Outcome). laid (values_of o)) ran an))
-  session_declines n = given_declined ran st an j (ran_declines s first ks (length st) (length an) (λ z. n (e ∙ z)) ∙ ap refused (sym e))
+  pub session_declines : (j : ℕ) (xs : List ℕ) → refused_with j xs ≡ open_check s → (refused_with j xs ≡ told (λ (o : Outcome). o.place) ran) × ((st ≡ leaves (λ (o : Outcome). laid (statuses_of o)) ran st) × (an ≡ leaves (λ (o : Outcome). laid (values_of o)) ran an))
+  session_declines j xs e = given_declined ran st an j xs (ran_declines s first ks (length st) (length an) j xs e)
 
-  module _ (z : j ≡ 0) where
+  module _ (e : answer (tt {0}) ≡ open_check s) where
     opens : ran ≡ after (run_checks ks (length st) (length an)) (map_session s first (calls_of ks))
-    opens = ran_opens s first ks (length st) (length an) (sym e ∙ z)
+    opens = ran_opens s first ks (length st) (length an) (open_passes s e)
 
     short : (length ks ≤ length st → length ks ≤ length an → ⊥) → (refused 2 ≡ told (λ (o : Outcome). o.place) ran) × ((st ≡ leaves (λ (o : Outcome). laid (statuses_of o)) ran st) × (an ≡ leaves (λ (o : Outcome). laid (values_of o)) ran an))
-    short n = given_declined ran st an 2 (opens ∙ run_short ks (length st) (length an) (map_session s first (calls_of ks)) n)
+    short n = given_declined ran st an 2 [] (opens ∙ run_short ks (length st) (length an) (map_session s first (calls_of ks)) n)
 
     pub session_short_statuses : length st < length ks → (refused 2 ≡ told (λ (o : Outcome). o.place) ran) × ((st ≡ leaves (λ (o : Outcome). laid (statuses_of o)) ran st) × (an ≡ leaves (λ (o : Outcome). laid (values_of o)) ran an))
     session_short_statuses l = short (λ g h. omega arith)
@@ -89,7 +92,7 @@ module _ (s : List ℕ) (first : ℕ) (ks st an : List ℕ) (j : ℕ) (e : j ≡
     module _ (g : length ks ≤ length st) (h : length ks ≤ length an) (t : Bool) (y : t ≡ are_calls ks) where
       pub session_no_call : not t ≡ true → (refused 255 ≡ told (λ (o : Outcome). o.place) ran) × ((st ≡ leaves (λ (o : Outcome). laid (statuses_of o)) ran st) × (an ≡ leaves (λ (o : Outcome). laid (values_of o)) ran an))
       session_no_call f =
-          given_declined ran st an 255
+          given_declined ran st an 255 []
           (opens ∙ run_no_call ks (length st) (length an) (map_session s first (calls_of ks)) g h (sym y ∙ not-true t f))
 
       pub session_answers : (p : ℕ) (st' an' : List ℕ) → not t ≡ false → Leaves (map_session s first (calls_of ks)) p st an st' an'

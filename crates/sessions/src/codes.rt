@@ -4,8 +4,6 @@ ghost use Rattle.format.specs.Sessions.{are_calls};
 
 use calling::AREA;
 
-// The refusal of a byte that is the code of no call. The numbers of document 01's table end at 17.
-pub const NO_CALL: u8 = 255;
 
 // Whether each byte is the code of a call.
 pub fn are_calls(calls: &[u8]) -> bool

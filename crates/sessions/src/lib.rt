@@ -2,13 +2,12 @@
 //
 //     session   a first number and a list of calls: every answer in order, and the place left at the end
 //     CROSS, TURN, TURN_BACK, ALONG, POINT, AREA   the codes of the calls
-//     NO_CALL   the number of the refusal where a byte is the code of no call
 //
 // Conventions. A call is lent as its code, one byte. The first number is any number. For call i, entry i of
 // `statuses` is 0 or the number of its refusal, entry i of `answers` its answer, with bit 15 where a turn has gone
 // round, and 0 where it is refused; the entries beyond the calls stay as they were. The whole session is declined
 // by opening's checks, where the bytes do not open, by 2, where a lent list is shorter than the list of calls, and
-// by NO_CALL. Then nothing is written. No function asks anything of its caller.
+// by 255, where a byte is the code of no call. Then nothing is written. No function asks anything of its caller.
 //
 // The bytes are checked once, before the first call. Where there are many calls, one pass over the map then finds
 // the mate, the area and the point of every place, in lists on the stack (the crate `surveying`), and each call
@@ -23,5 +22,4 @@ mod codes;
 mod runs;
 
 pub use calling::{ALONG, AREA, CROSS, POINT, TURN, TURN_BACK};
-pub use codes::NO_CALL;
 pub use runs::session;

@@ -7,7 +7,7 @@
 -- Assumes nothing.
 use mathlib.Core.Path.{◌≡◌, sym, ap, ◌∙◌}
 use mathlib.Core.Bool.{Bool, true, false, ◌&&◌}
-use mathlib.Core.List.{List}
+use mathlib.Core.List.{List, []}
 use Prim.Native.Nat.{ℕ, ◌*◌, ◌<◌, ◌≤◌}
 use native.Mathlib.Omega.{arith}
 use borrow.Author.Tests.{leb-true, le-leb}
@@ -15,12 +15,15 @@ use lib.Dec.{leb}
 use lib.ListN.{length}
 use Rattle.count.specs.Below.{pick}
 use Rattle.count.proofs.Logic.{both, not_both, pick_yes, pick_no}
-use Rattle.answers.specs.Answer.{Answer, answer, refused, told}
+use Rattle.answers.specs.Answer.{Answer, answer, refused_with, refused, told}
 use Rattle.answers.specs.Lent.{laid, leaves}
 use Rattle.drawing.specs.Drawing.{Drawing, borders}
 use Rattle.format.specs.Bytes.{size_in, word_in}
-use Rattle.format.specs.Open.{open_refusal}
-use Rattle.format.proofs.Passes.{opened_opens, opened_declines, opened}
+use Rattle.answers.proofs.Passing.{declines}
+use Rattle.format.specs.Open.{open_checks}
+use Rattle.format.proofs.Passes.{opened_opens, opened}
+use Rattle.opening.specs.Checks.{open_check}
+use Rattle.opening.proofs.Passed.{open_passes}
 use Rattle.format.specs.Pack.{drawing_of, unpack_of}
 use Rattle.roundtrip.proofs.Drawing.{drawing_half}
 use Rattle.unpacking.proofs.Placed.{nested_in}
@@ -31,37 +34,37 @@ Outcome s t k a t' k' =
     × ((t' ≡ leaves (λ (D : Drawing). laid D.turning) (unpack_of s (length t) (length k)) t)
     × (k' ≡ leaves (λ (D : Drawing). laid D.marks) (unpack_of s (length t) (length k)) k))
 
-module _ (s t k : List ℕ) (o : ℕ) (e : o ≡ open_refusal s) where
-  declined : (x : ℕ) → unpack_of s (length t) (length k) ≡ refused x → Outcome s t k (refused x) t k
+module _ (s t k : List ℕ) where
+  declined : (x : ℕ) (xs : List ℕ) → unpack_of s (length t) (length k) ≡ refused_with x xs → Outcome s t k (refused_with x xs) t k
   unfolding leaves
-  declined x h = (sym (ap (told borders) h), (sym (ap (λ a. leaves (λ (D : Drawing). laid D.turning) a t) h), sym (ap (λ a. leaves (λ (D : Drawing). laid D.marks) a k) h)))
+  declined x xs h = (sym (ap (told borders) h), (sym (ap (λ a. leaves (λ (D : Drawing). laid D.turning) a t) h), sym (ap (λ a. leaves (λ (D : Drawing). laid D.marks) a k) h)))
 
   -- the lists have room
   roomy : Bool
   roomy = leb (2 * (size_in s).m) (length t) && leb (size_in s).m (length k)
 
-  pub unpack_declines : (o ≡ 0 → ⊥) → Outcome s t k (refused o) t k
-  unfolding unpack_of opened
-  unpack_declines m = declined o (opened_declines s _ (λ z. m (e ∙ z)) ∙ ap refused (sym e))
+  pub unpack_declines : (x : ℕ) (xs : List ℕ) → refused_with x xs ≡ open_check s → Outcome s t k (refused_with x xs) t k
+  unfolding unpack_of open_check
+  unpack_declines x xs e = declined x xs (sym (declines (open_checks s) _ x xs e))
 
-  own : o ≡ 0 → unpack_of s (length t) (length k) ≡ pick roomy (answer (drawing_of (word_in s))) (refused 16)
-  unfolding unpack_of roomy opened
-  own z = opened_opens s (pick roomy (answer (drawing_of (word_in s))) (refused 16)) (sym e ∙ z)
+  module _ (m : ℕ) (h : m ≡ (size_in s).m) (e : answer (tt {0}) ≡ open_check s) where
+    own : unpack_of s (length t) (length k) ≡ pick roomy (answer (drawing_of (word_in s))) (refused 16)
+    unfolding unpack_of roomy opened
+    own = opened_opens s (pick roomy (answer (drawing_of (word_in s))) (refused 16)) (open_passes s e)
 
-  short : o ≡ 0 → roomy ≡ false → Outcome s t k (refused 16) t k
-  short z f = declined 16 (own z ∙ pick_no roomy (answer (drawing_of (word_in s))) (refused 16) f)
+    short : roomy ≡ false → Outcome s t k (refused 16) t k
+    short f = declined 16 [] (own ∙ pick_no roomy (answer (drawing_of (word_in s))) (refused 16) f)
 
-  module _ (m : ℕ) (h : m ≡ (size_in s).m) (z : o ≡ 0) where
     pub unpack_short_turning : length t < 2 * m → Outcome s t k (refused 16) t k
     unfolding roomy
     unpack_short_turning l =
-        short z (not_both (leb (2 * (size_in s).m) (length t)) (leb (size_in s).m (length k))
+        short (not_both (leb (2 * (size_in s).m) (length t)) (leb (size_in s).m (length k))
         (λ x y. let g = leb-true (2 * (size_in s).m) (length t) x in omega arith))
 
     pub unpack_short_marks : length k < m → Outcome s t k (refused 16) t k
     unfolding roomy
     unpack_short_marks l =
-        short z (not_both (leb (2 * (size_in s).m) (length t)) (leb (size_in s).m (length k))
+        short (not_both (leb (2 * (size_in s).m) (length t)) (leb (size_in s).m (length k))
         (λ x y. let g = leb-true (size_in s).m (length k) y in omega arith))
 
     pub unpack_answers : (t' k' : List ℕ) → 2 * m ≤ length t → m ≤ length k
@@ -72,6 +75,6 @@ module _ (s t k : List ℕ) (o : ℕ) (e : o ≡ open_refusal s) where
         let r : roomy ≡ true
         = both (leb (2 * (size_in s).m) (length t)) (leb (size_in s).m (length k))
         (le-leb (2 * (size_in s).m) (length t) (omega arith)) (le-leb (size_in s).m (length k) (omega arith)) in
-        let u : unpack_of s (length t) (length k) ≡ answer D = own z ∙ pick_yes roomy (answer D) (refused 16) r in
-        let c : m ≡ borders D = omega (arith, drawing_half (word_in s) (nested_in s (sym e ∙ z))) in
+        let u : unpack_of s (length t) (length k) ≡ answer D = own ∙ pick_yes roomy (answer D) (refused 16) r in
+        let c : m ≡ borders D = omega (arith, drawing_half (word_in s) (nested_in s (open_passes s e))) in
         (ap answer c ∙ sym (ap (told borders) u), (ht ∙ sym (ap (λ a. leaves (λ (D : Drawing). laid D.turning) a t) u), hk ∙ sym (ap (λ a. leaves (λ (D : Drawing). laid D.marks) a k) u)))

@@ -8,7 +8,7 @@ use Rattle.map.proofs.Joins.{join_declines, join_no_such, join_answers}
 use Rattle.map.proofs.search.joining.Goals as goal
 
 pub returns-in_err-check_cell : goal.returns-in_err-check_cell
-returns-in_err-check_cell c = passed_up _ _ _ _ c.from_residual.ensures.1 (join_declines _ _ _ _ c.in_err-check_cell.ensures)
+returns-in_err-check_cell c = passed_up _ _ _ _ c.from_residual.ensures.1 (join_declines _ _ _ _ _ c.in_err-check_cell.ensures)
 
 pub join_at-requires : goal.join_at-requires
 join_at-requires c = let h : answer (tt {0}) ≡ cell_check c.args.map.now Kind.point c.args.u.0 = c.in_ok-check_cell.ensures in search cell_numbered
