@@ -10,6 +10,7 @@
 -- rank_past        == no bit past the end is 1
 -- bytes_field      == the number that bytes hold
 -- chunk_entry      == the entries of a chunk
+-- blocks_long, rest_entry, rest_long == what a string is cut into: how many blocks, and the bytes after them
 -- block_ones, eight_ones, byte_ones, low_ones == the ones of a block, of eight bytes, of one, and of the first bits of one
 -- four_field, field_read == a field read off four bytes
 -- ones_few, among_share == how many of its bits are v

@@ -21,9 +21,9 @@ use Rattle.bits.proofs.Laws.{bit_past, rank_zero, rank_here, rank_other, select_
 use Rattle.bits.proofs.Fields.{field_byte, field_high, field_none, field_has, rank_share, rank_past}
 
 -- ---- bit
-pub read_within : (s : List ℕ) (i r : ℕ) → r ≡ get_or s (i / 8) 0 / 2 ^ (i % 8) % 2 → (r ≡ bit s i) × (r < 2)
+pub read_within_lem : (s : List ℕ) (i r : ℕ) → r ≡ get_or s (i / 8) 0 / 2 ^ (i % 8) % 2 → (r ≡ bit s i) × (r < 2)
 unfolding bit
-read_within s i r e = (e, omega arith)
+read_within_lem s i r e = (e, omega arith)
 
 pub read_past : (s : List ℕ) (i r : ℕ) → length s ≤ i / 8 → r ≡ 0 → (r ≡ bit s i) × (r < 2)
 read_past s i r l e = (e ∙ sym (bit_past s i (omega arith)), omega arith)

@@ -6,7 +6,7 @@ use crate::blocks::{ones_in_byte, ones_in_eight, share};
 use crate::runs::byte;
 
 // Bit i: 0 past the end.
-#[tactic(auto, using(crate::proofs::Loops::read_within, crate::proofs::Loops::read_past))]
+#[tactic(auto, using(crate::proofs::Loops::read_within_lem, crate::proofs::Loops::read_past))]
 pub fn bit(s: &[u8], i: usize) -> usize
     ensures { (result ≡ bit s.now i) × (result < 2) }
 {
