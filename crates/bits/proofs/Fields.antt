@@ -8,24 +8,29 @@
 -- rank_share       == from the ones among w bits to the bits v among them
 -- share_0, share_1, share_other == which bits are counted
 -- rank_past        == no bit past the end is 1
--- block_join, two_join == the number that bytes hold, from those that its halves hold
--- block_ones, low_ones, low_past == the ones of a block, and of the first bits of a byte
--- byte_past, four_past, width, field_read == a field read off four bytes
+-- bytes_field      == the number that bytes hold
+-- chunk_entry      == the entries of a chunk
+-- blocks_long, rest_entry, rest_long == what a string is cut into: how many blocks, and the bytes after them
+-- block_ones, eight_ones, byte_ones, low_ones == the ones of a block, of eight bytes, of one, and of the first bits of one
+-- four_field, field_read == a field read off four bytes
 -- ones_few, among_share == how many of its bits are v
 -- Assumes nothing.
 use mathlib.Core.Path.{◌≡◌, refl, sym, ap, ◌∙◌}
 use mathlib.Core.Logic.{inl, inr}
-use mathlib.Core.List.{List}
+use mathlib.Core.List.{List, [], ◌∷◌}
 use Prim.Native.Nat.{ℕ, zero, suc, ◌+◌, ◌-◌, ◌*◌, ◌/◌, ◌%◌, ◌^◌, ◌<◌, ◌≤◌, min}
-use native.Mathlib.Nat.{add-zero, zero-mul, mod-eq_of_lt, mod-one, mod-le}
+use native.Mathlib.Nat.{add-zero, zero-add, mul-zero, zero-mul, pow-suc, mod-eq_of_lt, mod-one}
 use native.Mathlib.Omega.{arith}
 use borrow.Author.Tests.{eq-eqb, ne_eqb}
 use lib.Count.{ones, ones_cat, ones-le}
 use lib.Dec.{eqb}
-use lib.ListN.{length, get_or, get_or-eq_default}
-use lib.Pow.{pow_pos, pow_mono, mod-pow-add, high}
-use mir.Syntax.{w64}
-use mir.Val.{Fits}
+use lib.ListN.{length, get_or, take, drop, length-drop}
+use lib.Seq.{get_or-drop}
+use Rattle.std.proofs.lemmas.List.{length-take-le, get_or-take}
+use Rattle.std.specs.Int.{byte_worth, sum_through, from_le_bytes}
+use Rattle.std.specs.Simd.{first_chunks}
+use lib.Pow.{pow_mono, pow-add, mod-pow-add, high}
+use mir.Syntax.{w32, w64}
 use Rattle.count.specs.Below.{pick}
 use Rattle.count.proofs.Logic.{same_or_not, pick_yes, pick_no}
 use Rattle.count.proofs.Below.{count_none}
@@ -112,59 +117,90 @@ rank_past s a (suc d) l =
     rw e (rank_other 1 s (a + d) (λ o. omega (arith, bit_past s (a + d) (omega arith))) ∙ rank_past s a d l)
 
 -- ---- for the proofs of the functions
--- two numbers that hold m bytes each, one after the other
-pub block_join : (s : List ℕ) (k m x y : ℕ) → x ≡ field s (8 * (k + m)) (8 * m) → y ≡ field s (8 * k) (8 * m)
-    → (x * 2 ^ (8 * m) + y ≡ field s (8 * k) (8 * m + 8 * m)) × (x * 2 ^ (8 * m) + y < 2 ^ (8 * m + 8 * m))
-block_join s k m x y e f =
-    let q : 8 * (k + m) ≡ 8 * k + 8 * m = omega arith in
-    let j : x * 2 ^ (8 * m) + y ≡ field s (8 * k) (8 * m + 8 * m) = rw (e, f, q) (field_join s (8 * k) (8 * m) (8 * m)) in
-    (j, rw j (field_below s (8 * k) (8 * m + 8 * m)))
+bytes_pow : (k : ℕ) → 256 ^ k ≡ 2 ^ (8 * k)
+bytes_pow zero = refl
+bytes_pow (suc k) =
+    let e : 8 * suc k ≡ 8 * k + 8 = omega arith in
+    rw (pow-suc 256 k, bytes_pow k, e) (sym (pow-add 2 (8 * k) 8))
 
--- two bytes
-pub two_join : (s : List ℕ) (k : ℕ) → get_or s (k + 1) 0 < 256 → get_or s k 0 < 256
-    → (get_or s (k + 1) 0 * 256 + get_or s k 0 ≡ field s (8 * k) 16) × (get_or s (k + 1) 0 * 256 + get_or s k 0 < 65536)
-two_join s k l h = block_join s k 1 (get_or s (k + 1) 0) (get_or s k 0) (field_byte s (k + 1) l) (field_byte s k h)
+-- the number that the bytes f 0 to f m hold, which are those of s from byte k on
+pub bytes_field : (s : List ℕ) (k : ℕ) (f : ℕ → ℕ) (m : ℕ) → ((i : ℕ) → get_or s i 0 < 256) → ((i : ℕ) → i ≤ m → f i ≡ get_or s (k + i) 0)
+    → sum_through (λ i. byte_worth i (f i)) m ≡ field s (8 * k) (8 * (m + 1))
+bytes_field s k f zero l same = same 0 (omega arith) ∙ rw (add-zero k) (field_byte s k (l k))
+bytes_field s k f (suc m) l same =
+    let e : 8 * (suc m + 1) ≡ 8 * (m + 1) + 8 = omega arith in
+    let p : 8 * k + 8 * (m + 1) ≡ 8 * (k + suc m) = omega arith in
+    let q : suc m ≡ m + 1 = omega arith in
+    let top : f (suc m) ≡ field s (8 * (k + suc m)) 8 = same (suc m) (omega arith) ∙ field_byte s (k + suc m) (l (k + suc m)) in
+    let worth : f (suc m) * 256 ^ suc m ≡ field s (8 * k + 8 * (m + 1)) 8 * 2 ^ (8 * (m + 1)) =
+    rw (p, bytes_pow (suc m), q, ← q, top) in
+    rw e (omega (arith, worth, bytes_field s k f m l (λ i h. same i (omega arith)), field_join s (8 * k) (8 * (m + 1)) 8))
+
+-- entry i of the b-th chunk
+pub chunk_entry : (n m : ℕ) (xs : List ℕ) (b i : ℕ) → b < m → i < n → get_or (get_or (first_chunks n m xs) b []) i 0 ≡ get_or xs (n * b + i) 0
+chunk_entry n zero xs b i h l = absurd (omega arith)
+chunk_entry n (suc m) xs zero i h l = rw (mul-zero n, zero-add i) (get_or-take n xs i 0 l)
+chunk_entry n (suc m) xs (suc b) i h l =
+    let e : n * suc b + i ≡ n + (n * b + i) = omega arith in
+    chunk_entry n m (drop n xs) b i (omega arith) l ∙ get_or-drop n xs (n * b + i) 0 ∙ ap (λ x. get_or xs x 0) (sym e)
 
 -- the ones of the first w bits of a block
 pub block_ones : (s : List ℕ) (k w x : ℕ) → x ≡ field s (8 * k) w
     → (rank 1 s (8 * k) + ones x ≡ rank 1 s (8 * k + w)) × (ones x ≤ w)
 block_ones s k w x e = rw e (field_ones s (8 * k) w, ones-le w (field s (8 * k) w) (field_below s (8 * k) w))
 
-pub ones_fits : (x : ℕ) → x < 2 ^ 64 → Fits w64 (ones x)
-ones_fits x l = record { fits = omega (arith, ones-le 64 x l) }
+-- the blocks that the first e bytes have
+module _ (s : List ℕ) (e : ℕ) (blocks : List (List ℕ)) (l : e ≤ length s) (n : length blocks ≡ length (take e s) / 8) where
+  pub blocks_long : length blocks ≡ e / 8
+  blocks_long = n ∙ ap (λ x. x / 8) (length-take-le e s l)
+
+  pub eight_ones : (b x : ℕ) → ((i : ℕ) → get_or s i 0 < 256) → blocks ≡ first_chunks 8 (length (take e s) / 8) (take e s)
+      → b < length blocks → x ≡ ones (from_le_bytes w64 (get_or blocks b []))
+      → (rank 1 s (8 * (8 * b)) + x ≡ rank 1 s (8 * (8 * b) + 64)) × (x ≤ 64)
+  eight_ones b x small q h o =
+      let same : (i : ℕ) → i ≤ 7 → get_or (get_or blocks b []) i 0 ≡ get_or s (8 * b + i) 0 =
+      λ i g.
+      ap (λ y. get_or (get_or y b []) i 0) q
+      ∙ chunk_entry 8 (length (take e s) / 8) (take e s) b i (omega arith) (omega arith)
+      ∙ get_or-take e s (8 * b + i) 0 (omega (arith, blocks_long)) in
+      rw o (block_ones s (8 * b) 64 (from_le_bytes w64 (get_or blocks b [])) (bytes_field s (8 * b) (λ i. get_or (get_or blocks b []) i 0) 7 small same))
+
+-- the bytes after the blocks
+module _ (s : List ℕ) (e : ℕ) (rest : List ℕ) (l : e ≤ length s) (q : rest ≡ drop (length (take e s) / 8 * 8) (take e s)) where
+  pub rest_entry : (i : ℕ) → e / 8 * 8 + i < e → get_or rest i 0 ≡ get_or s (e / 8 * 8 + i) 0
+  rest_entry i h =
+      ap (λ y. get_or y i 0) q
+      ∙ get_or-drop (length (take e s) / 8 * 8) (take e s) i 0
+      ∙ ap (λ x. get_or (take e s) (x / 8 * 8 + i) 0) (length-take-le e s l)
+      ∙ get_or-take e s (e / 8 * 8 + i) 0 h
+
+  pub rest_long : length rest ≡ e - e / 8 * 8
+  rest_long =
+      ap length q
+      ∙ length-drop (length (take e s) / 8 * 8) (take e s)
+      ∙ ap (λ x. x - x / 8 * 8) (length-take-le e s l)
+
+-- byte k, whole
+pub byte_ones : (s : List ℕ) (k x : ℕ) → x ≡ get_or s k 0 → get_or s k 0 < 256
+    → (rank 1 s (8 * k) + ones x ≡ rank 1 s (8 * k + 8)) × (ones x ≤ 8)
+byte_ones s k x e l = block_ones s k 8 x (e ∙ field_byte s k l)
 
 -- the low r digits of a byte
-pub low_part : (r : ℕ) → r ≤ 8 → 0 < 1 * 2 ^ r % 2 ^ 64
-low_part r l = rw (one_shifted 64 r (omega arith)) (pow_pos r)
-
-pub low_fits : (x d : ℕ) → x < 256 → Fits w64 (ones (x % d))
-low_fits x d l = ones_fits (x % d) (omega (arith, mod-le x d))
-
-pub low_ones : (s : List ℕ) (k r : ℕ) → r ≤ 8
-    → (rank 1 s (8 * k) + ones (get_or s k 0 % (1 * 2 ^ r % 2 ^ 64)) ≡ rank 1 s (8 * k + r)) × (ones (get_or s k 0 % (1 * 2 ^ r % 2 ^ 64)) ≤ r)
-low_ones s k r l = rw (one_shifted 64 r (omega arith)) (block_ones s k r (get_or s k 0 % 2 ^ r) (field_low s k r l))
-
-pub low_past : (s : List ℕ) (k r : ℕ) → length s ≤ k → (rank 1 s (8 * k) + 0 ≡ rank 1 s (8 * k + r)) × (0 ≤ r)
-low_past s k r l = (omega (arith, rank_past s (8 * k) r (omega arith)), omega arith)
+pub low_ones : (s : List ℕ) (k r x : ℕ) → r ≤ 8 → x ≡ get_or s k 0
+    → (rank 1 s (8 * k) + ones (x % (1 * 2 ^ r % 2 ^ 64)) ≡ rank 1 s (8 * k + r)) × (ones (x % (1 * 2 ^ r % 2 ^ 64)) ≤ r)
+low_ones s k r x l e = rw (one_shifted 64 r (omega arith), e) (block_ones s k r (get_or s k 0 % 2 ^ r) (field_low s k r l))
 
 -- ---- a run of bits, read off four bytes
-pub byte_past : (s : List ℕ) (k : ℕ) → length s ≤ k → (0 ≡ get_or s k 0) × (0 < 256)
-byte_past s k l = (sym (get_or-eq_default s 0 {n = k} l), omega arith)
+module _ (s : List ℕ) (k w x y z : ℕ) (ew : w ≡ get_or s k 0) (ex : x ≡ get_or s (k + 1) 0) (ey : y ≡ get_or s (k + 2) 0) (ez : z ≡ get_or s (k + 3) 0) where
+  four_same : (i : ℕ) → i ≤ 3 → get_or (w ∷ x ∷ y ∷ z ∷ []) i 0 ≡ get_or s (k + i) 0
+  four_same zero l = rw (add-zero k) ew
+  four_same (suc zero) l = ex
+  four_same (suc (suc zero)) l = ey
+  four_same (suc (suc (suc zero))) l = ez
+  four_same (suc (suc (suc (suc i)))) l = absurd (omega arith)
 
--- the fourth byte is past the end
-pub four_past : (s : List ℕ) (k x y z : ℕ) → length s < k + 4 → x ≡ get_or s (k + 2) 0 → x < 256 → y ≡ get_or s (k + 1) 0 → y < 256 → z ≡ get_or s k 0 → z < 256
-    → (x * 65536 + y * 256 + z ≡ field s (8 * k) 32) × (x * 65536 + y * 256 + z < 4294967296)
-four_past s k x y z l ex lx ey ly ez lz =
-    let low = (two_join s k (rw (← ey) ly) (rw (← ez) lz)).0 in
-    let high = (two_join s (k + 2) (rw (← (byte_past s (k + 2 + 1) (omega arith)).0) (omega arith)) (rw (← ex) lx)).0 in
-    let none = (byte_past s (k + 2 + 1) (omega arith)).0 in
-    let h : x ≡ field s (8 * (k + 2)) 16 = omega arith in
-    let g : y * 256 + z ≡ field s (8 * k) 16 = omega arith in
-    let j = block_join s k 2 x (y * 256 + z) h g in
-    (omega arith, omega arith)
-
-pub width : (w m : ℕ) → m ≡ min w widest → 0 < 1 * 2 ^ m % 2 ^ 64
-width w m h = rw (one_shifted 64 m (omega arith)) (pow_pos m)
+  pub four_field : ((i : ℕ) → get_or s i 0 < 256) → from_le_bytes w32 (w ∷ x ∷ y ∷ z ∷ []) ≡ field s (8 * k) 32
+  four_field small = bytes_field s k (λ i. get_or (w ∷ x ∷ y ∷ z ∷ []) i 0) 3 small four_same
 
 field_few : (s : List ℕ) (p m : ℕ) → m ≤ widest → field s p m < 2 ^ widest
 field_few s p m l = omega (arith, field_below s p m, pow_mono {i = m} {j = widest} l)

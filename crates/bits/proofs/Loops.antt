@@ -6,27 +6,27 @@
 -- Assumes nothing.
 use mathlib.Core.Path.{◌≡◌, refl, sym, ap, ◌∙◌}
 use mathlib.Core.Logic.{inl, inr}
-use mathlib.Core.Bool.{true, false}
+use mathlib.Core.Bool.{Bool, true, false}
 use mathlib.Core.List.{List}
 use Prim.Native.Nat.{ℕ, ◌+◌, ◌-◌, ◌*◌, ◌/◌, ◌%◌, ◌^◌, ◌<◌, ◌≤◌, min}
-use native.Mathlib.Nat.{zero-add}
+use native.Mathlib.Nat.{zero-add, zero-div}
 use native.Mathlib.Omega.{arith}
 use borrow.Author.Rules.{rules}
-use lib.ListN.{length, get_or}
+use lib.ListN.{length, get_or, drop, length-drop}
+use lib.Seq.{get_or-drop}
+use Rattle.std.specs.Prelude.{IsTrue, EachIndex, ◌↔◌}
 use Rattle.count.proofs.Logic.{same_or_not, lt_or_ge, true_or_false}
 use Rattle.bits.specs.Strings.{bit, rank, select, unused_zero, field, share}
 use Rattle.bits.proofs.Laws.{bit_past, rank_zero, rank_here, rank_other, select_rank, select_none, unused_zero_from, unused_zero_has}
-use Rattle.bits.proofs.Fields.{field_high, field_none, field_has, rank_share, rank_past}
+use Rattle.bits.proofs.Fields.{field_byte, field_high, field_none, field_has, rank_share, rank_past}
 
 -- ---- bit
 pub read_within_lem : (s : List ℕ) (i r : ℕ) → r ≡ get_or s (i / 8) 0 / 2 ^ (i % 8) % 2 → (r ≡ bit s i) × (r < 2)
 unfolding bit
 read_within_lem s i r e = (e, omega arith)
 
-pub read_past : (s : List ℕ) (i : ℕ) → length s ≤ i / 8 → (0 ≡ bit s i) × (0 < 2)
-read_past s i l = (sym (bit_past s i (omega arith)), omega arith)
-
-pub ruleset bit_all = (read_within_lem, read_past, rules)
+pub read_past : (s : List ℕ) (i r : ℕ) → length s ≤ i / 8 → r ≡ 0 → (r ≡ bit s i) × (r < 2)
+read_past s i r l e = (e ∙ sym (bit_past s i (omega arith)), omega arith)
 
 -- a bit that was read is what it was found to be
 pub bit_is : (s : List ℕ) (k v r : ℕ) → r ≡ bit s k → r ≡ v → bit s k ≡ v
@@ -53,8 +53,15 @@ module _ (s : List ℕ) (i a : ℕ) where
         so_far = rw p (omega (arith, C.so_far));
       }
 
+  -- a block of eight bytes more, one byte more
+  pub counted_block : (b c d : ℕ) → Counted s i a (8 * b) c → 64 * (b + 1) ≤ i
+      → (rank 1 s (8 * (8 * b)) + d ≡ rank 1 s (8 * (8 * b) + 64)) × (d ≤ 64) → Counted s i a (8 * (b + 1)) (c + d)
+  counted_block b c d C l t =
+      let p : 8 * (b + 1) ≡ 8 * b + 8 = omega arith in
+      rw p (counted_more (8 * b) 8 c d C (omega arith) t.0 t.1)
+
   -- and the bits of the last byte
-  pub counted_end : (k c d : ℕ) → Counted s i a k c → min (i / 8) (length s) ≤ k
+  pub counted_end : (k c d : ℕ) → Counted s i a k c → k ≡ min (i / 8) (length s)
       → rank 1 s (8 * k) + d ≡ rank 1 s (8 * k + i % 8) → d ≤ i % 8 → (rank 1 s (8 * a) + (c + d) ≡ rank 1 s i) × (8 * a + (c + d) ≤ i)
   counted_end k c d C l r h =
       let u : rank 1 s (8 * k + i % 8) ≡ rank 1 s i =
@@ -66,10 +73,10 @@ module _ (s : List ℕ) (i a : ℕ) where
       ] in
       (omega (arith, C.so_far), omega (arith, C.few, C.within))
 
-pub ranked : (v : ℕ) (s : List ℕ) (i k c d r : ℕ) → Counted s i 0 k c → rank 1 s (8 * k) + d ≡ rank 1 s i → r ≡ share v i (c + d) → r ≡ rank v s i
-ranked v s i k c d r C e q =
-    let o : rank 1 s 0 + (c + d) ≡ rank 1 s (0 + i) = rw (zero-add i) (omega (arith, C.so_far)) in
-    q ∙ omega (arith, rank_zero v s, rw (zero-add i) at (rank_share v s 0 i (c + d) o))
+pub ranked : (v : ℕ) (s : List ℕ) (i c r : ℕ) → rank 1 s 0 + c ≡ rank 1 s i → r ≡ share v i c → r ≡ rank v s i
+ranked v s i c r e q =
+    let o : rank 1 s 0 + c ≡ rank 1 s (0 + i) = rw (zero-add i) e in
+    q ∙ omega (arith, rank_zero v s, rw (zero-add i) at (rank_share v s 0 i c o))
 
 -- ---- select
 pub record Selected (v : ℕ) (s : List ℕ) (n j p l : ℕ) : Type 0 where
@@ -90,8 +97,12 @@ module _ (v : ℕ) (s : List ℕ) (n j : ℕ) where
       let p : 8 * (k + m) ≡ 8 * k + 8 * m = omega arith in
       record { within = h; left = rw p (omega (arith, S.left, rank_share v s (8 * k) (8 * m) d r)) }
 
-  pub selected_rest : (p l r : ℕ) → Selected v s n j p l → r ≡ select v s n (rank v s p + l) → r ≡ select v s n j
-  selected_rest p l r S e = rw S.left at e
+  pub selected_block : (b l d c : ℕ) → Selected v s n j (8 * (8 * b)) l → 64 * (b + 1) ≤ n
+      → (rank 1 s (8 * (8 * b)) + d ≡ rank 1 s (8 * (8 * b) + 64)) × (d ≤ 64) → c ≡ share v 64 d → c ≤ l
+      → Selected v s n j (8 * (8 * (b + 1))) (l - c)
+  selected_block b l d c S h t z g =
+      let p : 8 * (b + 1) ≡ 8 * b + 8 = omega arith in
+      rw p (selected_skip (8 * b) 8 l d c S (omega arith) t.0 z g)
 
   pub selected_yes : (k l r m : ℕ) → Selected v s n j k l → k < n → r ≡ bit s k → r ≡ v → (l ≡ 0 → ⊥) → m ≡ l - 1 → Selected v s n j (k + 1) m
   selected_yes k l r m S h b e z q =
@@ -144,14 +155,43 @@ module _ (s : List ℕ) (k : ℕ) where
             ];
       }
 
-  pub unused_not : (at r : ℕ) → Unused s k at r → get_or s at 0 < 256 → (get_or s at 0 / 2 ^ r ≡ 0 → ⊥) → false ≡ unused_zero s k
-  unused_not at r U l n =
+-- what comes after the byte of bit k
+module _ (s : List ℕ) (k : ℕ) (small : (i : ℕ) → get_or s i 0 < 256) where
+  pub unused_not : (get_or s (k / 8) 0 / 2 ^ (k % 8) ≡ 0 → ⊥) → false ≡ unused_zero s k
+  unused_not n =
       elim (true_or_false (unused_zero s k)) [
         | inl u ↦
-            let z : field s (8 * at + r) (8 - r) ≡ 0 = field_none s (8 * at + r) (8 - r) (λ x h g. unused_zero_has s k x u (omega (arith, U.from))) in
-            absurd (n (field_high s at r (omega (arith, U.in_byte)) l ∙ z))
+            let z : field s (8 * (k / 8) + k % 8) (8 - k % 8) ≡ 0 =
+            field_none s (8 * (k / 8) + k % 8) (8 - k % 8) (λ x h g. unused_zero_has s k x u (omega arith)) in
+            absurd (n (field_high s (k / 8) (k % 8) (omega arith) (small (k / 8)) ∙ z))
         | inr f ↦ sym f
       ]
 
-  pub unused_end : (at r : ℕ) → Unused s k at r → length s ≤ at → true ≡ unused_zero s k
-  unused_end at r U l = sym (unused_zero_from s k (λ x h g. U.zero_so_far x h (omega arith)))
+  zero_bytes : unused_zero s k ≡ true → (x : ℕ) → k / 8 < x → get_or s x 0 ≡ 0
+  zero_bytes u x l = field_byte s x (small x) ∙ field_none s (8 * x) 8 (λ y h g. unused_zero_has s k y u (omega arith))
+
+  module _ (m : ℕ) (e : m ≡ min (k / 8 + 1) (length s)) (first : get_or s (k / 8) 0 / 2 ^ (k % 8) ≡ 0) where
+    from_bytes : ((i : ℕ) → i < length (drop m s) → get_or (drop m s) i 0 ≡ 0) → unused_zero s k ≡ true
+    unfolding bit
+    from_bytes z =
+        let U : Unused s k (k / 8 + 1) 0 = unused_more s k (k / 8) (k % 8) (unused_start s k) (small (k / 8)) first in
+        unused_zero_from s k
+        (λ x l h.
+        elim (lt_or_ge x (8 * (k / 8 + 1) + 0)) [
+          | inl b ↦ U.zero_so_far x l b
+          | inr g ↦
+              let p : m + (x / 8 - m) ≡ x / 8 = omega arith in
+              let q : get_or s (x / 8) 0 ≡ 0 =
+              rw p at (sym (get_or-drop m s (x / 8 - m) 0) ∙ z (x / 8 - m) (omega (arith, length-drop m s))) in
+              rw (q, zero-div (2 ^ (x % 8)))
+        ])
+
+    to_bytes : unused_zero s k ≡ true → (i : ℕ) → i < length (drop m s) → get_or (drop m s) i 0 ≡ 0
+    to_bytes u i l = get_or-drop m s i 0 ∙ zero_bytes u (m + i) (omega (arith, length-drop m s))
+
+    pub unused_both : (r : Bool) → (IsTrue r ↔ EachIndex (drop m s) (λ i. get_or (drop m s) i 0 ≡ 0)) → r ≡ unused_zero s k
+    unused_both r t =
+        elim (true_or_false r) [
+          | inl a ↦ a ∙ sym (from_bytes (t.0 a))
+          | inr b ↦ elim (true_or_false (unused_zero s k)) [ inl u ↦ t.1 (to_bytes u) ∙ sym u | inr f ↦ b ∙ sym f ]
+        ]

@@ -5,24 +5,24 @@
 -- set_bit_here     == the bit that was set is the new one
 -- set_bit_other    == every other bit is as before
 -- set_bit_small    == what was a byte is one
--- digit_.., turned_.. == what changes one byte, and that it fits
+-- turned, turned_fits == what changes one byte, and that it fits
+-- stored, stored_past == what changes the string
 -- Assumes nothing.
-use mathlib.Core.Path.{◌≡◌, sym, ap}
+use mathlib.Core.Path.{◌≡◌, refl, sym, ap}
 use mathlib.Core.Logic.{◌≢◌, inl, inr}
-use mathlib.Core.Bool.{Bool}
+use mathlib.Core.Bool.{Bool, true, false}
 use mathlib.Core.List.{List}
 use Prim.Native.Nat.{ℕ, ◌+◌, ◌-◌, ◌*◌, ◌/◌, ◌%◌, ◌^◌, ◌<◌, ◌≤◌}
 use native.Mathlib.Omega.{arith}
-use borrow.Author.Rules.{rules}
 use lib.ListN.{length, get_or, set, length-set}
 use lib.Seq.{set_out, get_or-set_same, get_or-set_other}
 use mir.Syntax.{w8}
-use mir.Val.{Fits}
+use mir.Val.{Fits, bool_byte}
 use Rattle.count.specs.Below.{pick}
 use Rattle.count.proofs.Logic.{same_or_not, lt_or_ge}
 use Rattle.bits.specs.Strings.{bit}
 use Rattle.bits.specs.Writes.{with_bit, set_bit}
-use Rattle.bits.proofs.Digits.{one_shifted, digit_split, with_bit_here, with_bit_other, with_bit_below, with_bit_either}
+use Rattle.bits.proofs.Digits.{one_shifted, with_bit_here, with_bit_other, with_bit_below, with_bit_either}
 
 module _ (s : List ℕ) (i : ℕ) (v : Bool) where
   pub set_bit_length : length (set_bit s i v) ≡ length s
@@ -75,23 +75,16 @@ set_bit_small s i v j l =
 
 -- the byte x without digit r, and with it
 module _ (x r : ℕ) (v : Bool) (l : r < 8) where
-  pub digit_part : x / 2 ^ r % 2 * (1 * 2 ^ r % 256) ≤ x
-  digit_part = rw (one_shifted 8 r l) (omega (arith, digit_split x r))
+  bool_pick : (t : Bool) → bool_byte t ≡ pick t 1 0
+  bool_pick true = refl
+  bool_pick false = refl
 
-  pub digit_fits : Fits w8 x → Fits w8 (x / 2 ^ r % 2 * (1 * 2 ^ r % 256))
-  digit_fits f = record { fits = omega (arith, digit_part, f.fits) }
-
-  module _ (d : ℕ) (e : d ≡ pick v 1 0) where
+  module _ (d : ℕ) (e : d ≡ bool_byte v) where
     pub turned : x - x / 2 ^ r % 2 * (1 * 2 ^ r % 256) + d * (1 * 2 ^ r % 256) ≡ with_bit x r v
-    turned = rw (one_shifted 8 r l, e) (with_bit_either x r v)
+    turned = rw (one_shifted 8 r l, e, bool_pick v) (with_bit_either x r v)
 
     pub turned_fits : Fits w8 x → Fits w8 (x - x / 2 ^ r % 2 * (1 * 2 ^ r % 256) + d * (1 * 2 ^ r % 256))
     turned_fits f = record { fits = rw turned (with_bit_below x r v 8 f.fits l) }
-
-    pub one_fits : Fits w8 x → Fits w8 (d * (1 * 2 ^ r % 256))
-    one_fits f = record { fits = omega (arith, (turned_fits f).fits) }
-
-pub ruleset with_bit_all = (digit_part, digit_fits, turned, turned_fits, one_fits, rules)
 
 pub stored : (s : List ℕ) (i y : ℕ) (v : Bool) → y ≡ with_bit (get_or s (i / 8) 0) (i % 8) v → set s (i / 8) y ≡ set_bit s i v
 unfolding set_bit
@@ -99,5 +92,3 @@ stored s i y v e = ap (set s (i / 8)) e
 
 pub stored_past : (s : List ℕ) (i : ℕ) (v : Bool) → length s ≤ i / 8 → s ≡ set_bit s i v
 stored_past s i v l = sym (set_bit_past s i v l)
-
-pub ruleset set_bit_all = (stored, stored_past, rules)

@@ -1,9 +1,9 @@
 // Writing one bit of a string.
 ghost use Rattle.std.specs.Prelude.{◌≡◌, ◌<◌};
-ghost use Rattle.count.specs.Below.{pick};
 ghost use Rattle.bits.specs.Writes.{with_bit, set_bit};
 
 // Makes bit i be v. Nothing changes where i is past the end.
+#[tactic(auto, using(crate::proofs::Stores::stored, crate::proofs::Stores::stored_past))]
 pub fn set_bit(s: &mut [u8], i: usize, v: bool)
     ensures { s.new ≡ set_bit s.old i v }
 {
@@ -14,17 +14,12 @@ pub fn set_bit(s: &mut [u8], i: usize, v: bool)
 }
 
 // The byte x with bit r made v.
+#[tactic(auto, using(crate::proofs::Stores::turned))]
 fn with_bit(x: u8, r: usize, v: bool) -> u8
     requires { r < 8 }
     ensures { result ≡ with_bit x r v }
 {
     let p = 1 << r;
-    x - (x >> r) % 2 * p + one(v) * p
-}
-
-// 1 for true. A number, and no jump: the bits of a string are hard to foresee.
-fn one(v: bool) -> u8
-    ensures { result ≡ pick v 1 0 }
-{
-    if v { 1 } else { 0 }
+    // v as a number, and no jump: the bits of a string are hard to foresee.
+    x - (x >> r) % 2 * p + u8::from(v) * p
 }

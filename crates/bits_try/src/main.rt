@@ -17,7 +17,7 @@ fn main(rt: HostRuntime) -> io::Result<()> {
     lines(&rt, &s)
 }
 
-// Every length to 32, and then by longer steps.
+// Every length to 32, and then by longer steps: the step grows with n, so no range has these lengths.
 fn lines(rt: &impl Print, s: &[u8]) -> io::Result<()> {
     let mut n = 0;
     while n <= 4200 {
@@ -35,7 +35,7 @@ fn lines(rt: &impl Print, s: &[u8]) -> io::Result<()> {
 fn counts(rt: &impl Print, s: &[u8], n: usize, v: usize) -> io::Result<()> {
     show(rt, bits::rank(s, v, n))?;
     show(rt, bits::select(s, v, n, n / 4))?;
-    show(rt, bits::unused_zero(s, n) as usize)
+    show(rt, usize::from(bits::unused_zero(s, n)))
 }
 
 fn runs(rt: &impl Print, s: &[u8], n: usize, v: usize, w: usize) -> io::Result<()> {
@@ -43,14 +43,14 @@ fn runs(rt: &impl Print, s: &[u8], n: usize, v: usize, w: usize) -> io::Result<(
     show(rt, bits::count_in(s, v, n, w))?;
     show(rt, bits::byte(s, n / 8))?;
     show(rt, bits::bytes_for(n))?;
-    show(rt, lending::least(n, 1000))
+    show(rt, n.min(1000))
 }
 
 fn brackets(rt: &impl Print, s: &[u8], n: usize, i: usize) -> io::Result<()> {
     show(rt, bits::bit(s, i))?;
     show(rt, matching::partner(s, n, i))?;
     show(rt, matching::enclosing(s, i))?;
-    show(rt, matching::is_balanced(s, n) as usize)
+    show(rt, usize::from(matching::is_balanced(s, n)))
 }
 
 fn scan(rt: &impl Print, s: &[u8], n: usize, p: usize, d: usize) -> io::Result<()> {
@@ -62,7 +62,7 @@ fn scan(rt: &impl Print, s: &[u8], n: usize, p: usize, d: usize) -> io::Result<(
 fn cleared(rt: &impl Print, k: usize) -> io::Result<()> {
     let mut list = [7u16; 16];
     lending::clear(&mut list, k);
-    show(rt, (list[8] == 0) as usize)?;
+    show(rt, usize::from(list[8] == 0))?;
     println!(rt;)
 }
 

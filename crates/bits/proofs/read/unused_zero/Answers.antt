@@ -1,15 +1,15 @@
-use native.Mathlib.Omega.{arith}
-use Rattle.bits.proofs.Loops.{unused_start, unused_more, unused_not, unused_end}
+-- `bits::read::unused_zero` meets its contract. Assumes nothing.
+use mathlib.Core.Path.{◌∙◌}
+use borrow.Author.Tests.{ne_eqb}
+use Rattle.std.proofs.lemmas.List.{take_rest}
+use Rattle.bits.proofs.Loops.{unused_not, unused_both}
 use Rattle.bits.proofs.read.unused_zero.Goals as goal
 
-pub loop-at-init : goal.loop-at-init
-loop-at-init c = unused_start _ _
+pub returns-then-byte-k-eq0 : goal.returns-then-byte-k-eq0
+returns-then-byte-k-eq0 c =
+    unused_both _ _ (λ i. (c.type_inv.s i).fits) _ c.min.ensures (rw c.byte.ensures.0 at c.if-byte-k-eq0.true) _
+    (rw (take_rest c.args.s.now c.min.result) at c.all_zero.ensures)
 
-pub returns-then-s-at-ne0 : goal.returns-then-s-at-ne0
-returns-then-s-at-ne0 c = unused_not _ _ _ _ c.loop-at.invariant (c.shared_slice_known-1.given c.loop-at.at).fits c.if-s-at-ne0.true
-
-pub loop-at-preserved : goal.loop-at-preserved
-loop-at-preserved c = unused_more _ _ _ _ c.loop-at.invariant (c.shared_slice_known-1.given c.loop-at.at).fits c.if-s-at-ne0.false
-
-pub returns : goal.returns
-returns c = unused_end _ _ _ _ c.loop-at.invariant (omega arith)
+pub returns-else-byte-k-eq0 : goal.returns-else-byte-k-eq0
+returns-else-byte-k-eq0 c =
+    ne_eqb _ 0 c.if-byte-k-eq0.false ∙ unused_not _ _ (λ i. (c.type_inv.s i).fits) (rw c.byte.ensures.0 at c.if-byte-k-eq0.false)
