@@ -7,7 +7,7 @@ ghost use Rattle.format.specs.Calls.{places_in};
 ghost use Rattle.opening.specs.Cells.{kind_of, number_of_cell};
 ghost use Rattle.walking.specs.Positions.{Position, Numbered};
 
-use crate::counts::count;
+use crate::counts::Strings;
 use layout::{bits_a, family_bit, part_a, part_b};
 use opening::Cell;
 use walking::first_at;
@@ -31,8 +31,11 @@ fn size_from(map: &[u8], family: Family, f: usize) -> usize
     ensures { result ≡ size (seen family (word_in map.now)) (bits_a (size_in map.now))
         (number (seen family (word_in map.now)) f) }
 {
-    let a = part_a(map);
-    let v = family_bit(family);
-    let j = bits::rank(a, v, f);
-    count(a, part_b(map, family), v, bits_a(map), f, j)
+    let strings = Strings {
+        a: part_a(map),
+        b: part_b(map, family),
+        v: family_bit(family),
+    };
+    let j = bits::rank(strings.a, strings.v, f);
+    strings.count(bits_a(map), f, j)
 }
