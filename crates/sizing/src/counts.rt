@@ -30,6 +30,7 @@ impl Strings<'_> {
         ensures { result ≡ (run (is_bit self.now.v self.now.a.now) (is_bit 0 self.now.b.now) (n - p) p j 0 0).found }
     {
         let mut at = Counted { depth: 0, found: 0 };
+        // Not the steps of a range: p goes from run to run, and the last run ends at n.
         while p < n {
             let e = (p + WIDEST).min(n);
             let k = count_in(self.a, self.v, p, e - p);
