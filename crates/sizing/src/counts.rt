@@ -98,6 +98,7 @@ impl Strings<'_> {
 }
 
 // w at depth 0, else 0.
+#[tactic(auto, using(crate::proofs::Runs::flat_yes, crate::proofs::Runs::flat_no))]
 fn flat(depth: usize, w: usize) -> usize
     ensures { (result ≡ flat depth w) × (result ≤ w) }
 {
