@@ -1,5 +1,5 @@
 // The memory of the lists, and a map surveyed into it.
-ghost use Rattle.std.specs.Prelude.{◌≡◌, length};
+ghost use Rattle.std.specs.Prelude.{◌≡◌, length, replicate};
 ghost use Rattle.format.specs.Open.{open_refusal};
 
 use crate::moves::Survey;
@@ -17,7 +17,10 @@ pub struct Lists {
 }
 
 impl Lists {
-    pub fn new() -> Lists {
+    // Every entry is 0.
+    pub fn new() -> Lists
+        ensures { (result.mates ≡ replicate 4096 0) × (result.areas ≡ replicate 4096 0) × (result.points ≡ replicate 4096 0) }
+    {
         Lists {
             mates: [0; MOST_PLACES],
             areas: [0; MOST_PLACES],
