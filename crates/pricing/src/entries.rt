@@ -67,7 +67,7 @@ fn may_hold(x: f64, low: f64, high: f64) -> bool
     is_within(x) && is_within(low) && is_within(high) && !(high < low)
 }
 
-// Whether a number lies between the bounds; what is no number does not.
+// Whether a number lies between the bounds; what is no number does not. Two comparisons: `(LEAST..=MOST).contains(&x)` says no more.
 #[tactic(auto, unfolding(tariff::specs::Tariff::within))]
 fn is_within(x: f64) -> bool
     ensures { result ≡ within x }

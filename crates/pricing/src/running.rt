@@ -30,8 +30,8 @@ fn more(running: Running, x: f64) -> Running
     }
 }
 
-// "A held one is raised to its floor or lowered to its ceiling." `clamp` of a total order asks that the floor is no higher than the
-// ceiling, and f64 has none: this asks nothing of its caller.
+// "A held one is raised to its floor or lowered to its ceiling." Not `clamp`, which asks that the floor does not exceed the ceiling:
+// this asks nothing of its caller.
 #[tactic(auto, unfolding(tariff::specs::Tariff::held))]
 pub fn hold(x: f64, low: f64, high: f64) -> f64
     ensures { result ≡ held x low high }

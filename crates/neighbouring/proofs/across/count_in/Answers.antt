@@ -1,8 +1,9 @@
+use Rattle.std.proofs.Common.{rules}
 use Rattle.neighbouring.proofs.Counting.{others_fit, counting_start, counting_more, counting_end}
 use Rattle.neighbouring.proofs.across.count_in.Goals as goal
 
 pub loop-k-init : goal.loop-k-init
-loop-k-init c = counting_start _ _ c.requires
+loop-k-init c = search (counting_start, rules)
 
 pub overflow_add-others : goal.overflow_add-others
 overflow_add-others c = search others_fit
