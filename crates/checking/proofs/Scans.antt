@@ -2,20 +2,18 @@
 --
 -- lengths_long, lengths_are == what the comparison of lengths says of check 1
 -- range_start, range_entries, range_marks == what they say of check 3
--- marks_counted    == how many marks are 1, counted in the list, is how many borders are marked
+-- Marked ms e k    == k of the first e borders are marked
+-- marked_..        == from one border to the next, and at the end
 -- Assumes nothing.
-use mathlib.Core.Path.{◌≡◌, refl, sym, ap, ◌∙◌}
+use mathlib.Core.Path.{◌≡◌, sym}
 use mathlib.Core.Bool.{Bool, true, false}
 use mathlib.Core.List.{List}
-use Prim.Native.Nat.{ℕ, zero, suc, ◌+◌, ◌*◌, ◌<◌, ◌≤◌, max}
-use native.Mathlib.Numerals.{add-one}
+use Prim.Native.Nat.{ℕ, ◌+◌, ◌*◌, ◌<◌, ◌≤◌, max}
 use native.Mathlib.Omega.{arith}
-use borrow.Author.Tests.{eq-eqb, eqb-true}
+use borrow.Author.Rules.{rules}
+use borrow.Author.Tests.{eq-eqb, ne_eqb, eqb-true}
 use lib.Dec.{eqb}
-use lib.ListN.{length, get_or, take}
-use lib.Seq.{take-length}
-use Rattle.std.specs.List.{count_by}
-use Rattle.std.proofs.lemmas.List.Sums.{count_by_more_yes, count_by_more_no}
+use lib.ListN.{length, get_or}
 use Rattle.count.specs.Below.{Decides, count}
 use Rattle.count.proofs.Below.{count_zero, count_yes, count_no}
 use Rattle.count.proofs.Decides.{decides_refutes}
@@ -79,20 +77,38 @@ module _ (ts ms : List ℕ) (s : ℕ) (F : LengthsFit (lent ts ms s)) where
       (range_decides (lent ts ms s))
 
 -- ---- count_marks
+pub record Marked (ms : List ℕ) (e k : ℕ) : Type 0 where
+  pub within : e ≤ length ms
+  pub few : k ≤ e
+  pub so_far : k ≡ count (λ i. eqb (get_or ms i 0) 1) e
+
 module _ (ms : List ℕ) where
   abbrev mark : ℕ → Bool
-  mark x = eqb x 1
+  mark i = eqb (get_or ms i 0) 1
 
-  counted_more : (e : ℕ) (b : Bool) → mark (get_or ms e 0) ≡ b → e < length ms
-      → count_by mark (take e ms) ≡ count (λ i. mark (get_or ms i 0)) e
-      → count_by mark (take (e + 1) ms) ≡ count (λ i. mark (get_or ms i 0)) (e + 1)
-  counted_more e true h l q = omega (arith, q, count_by_more_yes mark ms e 0 l h, count_yes (λ i. mark (get_or ms i 0)) e h)
-  counted_more e false h l q = omega (arith, q, count_by_more_no mark ms e 0 l h, count_no (λ i. mark (get_or ms i 0)) e h)
+  pub marked_start : Marked ms 0 0
+  marked_start = record { within = omega arith; few = omega arith; so_far = sym (count_zero mark) }
 
-  counted_to : (e : ℕ) → e ≤ length ms → count_by mark (take e ms) ≡ count (λ i. mark (get_or ms i 0)) e
-  counted_to zero l = sym (count_zero (λ i. mark (get_or ms i 0)))
-  counted_to (suc e) l = rw (← add-one e) (counted_more e (mark (get_or ms e 0)) refl (omega arith) (counted_to e (omega arith)))
+  pub marked_yes : (e k j : ℕ) → Marked ms e k → e < length ms → get_or ms e 0 ≡ 1 → j ≡ k + 1 → Marked ms (e + 1) j
+  marked_yes e k j M l h q =
+      record {
+        within = omega arith;
+        few = omega (arith, M.few);
+        so_far = omega (arith, M.so_far, count_yes mark e (eq-eqb (get_or ms e 0) 1 h));
+      }
 
-  pub marks_counted : (k : ℕ) → k ≡ count_by mark ms → (ts : List ℕ) (s : ℕ) → k ≡ mark_count (lent ts ms s)
+  pub marked_no : (e k j : ℕ) → Marked ms e k → e < length ms → (get_or ms e 0 ≡ 1 → ⊥) → j ≡ k → Marked ms (e + 1) j
+  marked_no e k j M l h q =
+      record {
+        within = omega arith;
+        few = omega (arith, M.few);
+        so_far = omega (arith, M.so_far, count_no mark e (ne_eqb (get_or ms e 0) 1 h));
+      }
+
+  pub marked_end : (e k : ℕ) → Marked ms e k → length ms ≤ e → (ts : List ℕ) (s : ℕ) → k ≡ mark_count (lent ts ms s)
   unfolding mark_count is_marked borders
-  marks_counted k q ts s = q ∙ sym (ap (count_by mark) (take-length ms)) ∙ counted_to (length ms) (omega arith)
+  marked_end e k M l ts s =
+      let h : e ≡ length ms = omega (arith, M.within) in
+      rw h at M.so_far
+
+pub ruleset count_marks_all = (marked_end, rules)

@@ -41,7 +41,14 @@ pub fn count_marks(marks: &[u8]) -> usize
     ensures by_index { (ts : List ℕ) (s : ℕ) → result ≡ mark_count (lent ts marks.now s) }
     ensures upper_bound { result ≤ length marks.now }
 {
-    marks.iter().filter(|&&m| m == 1).count()
+    // A loop and not `filter` and `count`, whose jump at each mark can't be foreseen: packing took longer with them.
+    let mut marked: usize = 0;
+    for &m in marks {
+        if m == 1 {
+            marked += 1;
+        }
+    }
+    marked
 }
 
 // Whether every mark is 0 or 1.

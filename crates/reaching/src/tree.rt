@@ -56,8 +56,7 @@ fn note_tree(turning: &[u16], work: &mut [u16]) -> bool
         → NotesTree (lent turning.now ms s) result work.new }
     ensures kept { Kept (3 * length turning.now) work.old work.new }
 {
-    let none = [0u8; 0];
-    let reached = spread(turning, &none, work);
+    let reached = spread(turning, &[], work);
     reached.ends == turning.len()
 }
 

@@ -1,4 +1,4 @@
-use Rattle.crossing.proofs.Stack.{nesting_border, nesting_flag, nesting_found, nesting_height, nesting_here, nesting_last, nesting_last_place, nesting_length, nesting_narrow, nesting_none, nesting_outside, nesting_pop, nesting_push, nesting_scaled, nesting_skip, nesting_some, nesting_stands, nesting_start, nesting_sum, nesting_top, nesting_top_scaled, nesting_top_sum, some_all}
+use Rattle.crossing.proofs.Stack.{nesting_border, nesting_flag, nesting_found, nesting_height, nesting_here, nesting_last, nesting_last_place, nesting_narrow, nesting_none, nesting_outside, nesting_pop, nesting_push, nesting_scaled, nesting_skip, nesting_some, nesting_stands, nesting_start, nesting_sum, nesting_top, nesting_top_scaled, nesting_top_sum, some_all}
 use Rattle.crossing.proofs.find.follow.Goals.{then-marks-e-ne1+then-work-places-eq0, then-marks-e-ne1+else-work-places-eq0+else-opened-e, else-marks-e-ne1}
 use Rattle.crossing.proofs.find.follow.Goals as goal
 
@@ -46,9 +46,6 @@ above-b-requires c =
     nesting_stands _ _ c.requires _ _ _ c.loop-p.invariant c.loop-p-test.true _ c.border_in-e.ensures c.if-marks-e-ne1.true
     c.if-work-places-eq0.false _ c.opened.ensures c.if-opened-e.true
 
-pub shape_of-work-then-opened-e : goal.shape_of-work-then-opened-e
-shape_of-work-then-opened-e c = search nesting_length
-
 pub returns-then-opened-e : goal.returns-then-opened-e
 returns-then-opened-e c =
     record {
@@ -68,9 +65,6 @@ loop-p-preserved c =
           w.if-work-places-eq0.false _ w.opened.ensures w.if-opened-e.false _ _ w.k-is w.work-is
       | else-marks-e-ne1 w ↦ search nesting_skip
     ]
-
-pub shape_of-work : goal.shape_of-work
-shape_of-work c = search nesting_length
 
 pub returns : goal.returns
 returns c =

@@ -1,7 +1,6 @@
 -- `reaching::tree::find_tree` meets its contract. Assumes nothing.
 use mathlib.Core.Path.{◌∙◌}
 use native.Mathlib.Omega.{arith}
-use borrow.Author.Rules.{rules}
 use Rattle.lending.proofs.Kept.{restored}
 use Rattle.reaching.proofs.Told.{tree_not, tree_found}
 use Rattle.reaching.proofs.tree.find_tree.Goals.{else-found, then-found}
@@ -9,13 +8,6 @@ use Rattle.reaching.proofs.tree.find_tree.Goals as goal
 
 pub write_marks-requires : goal.write_marks-requires
 write_marks-requires c = (c.note_tree-found.ensures.by_index c.args.marks.now 0 c.requires.1).marks
-
-pub shape_of-marks : goal.shape_of-marks
-shape_of-marks c =
-    elim c.if-found.branch [
-      | then-found w ↦ search rules
-      | else-found w ↦ search rules
-    ]
 
 pub returns : goal.returns
 returns c =

@@ -1,5 +1,5 @@
 use native.Mathlib.Omega.{arith}
-use Rattle.reaching.proofs.Writing.{copied_start, copied_length, copied_fits, copied_more, copied_all}
+use Rattle.reaching.proofs.Writing.{copied_start, copied_fits, copied_more, copied_all}
 use Rattle.reaching.proofs.tree.write_marks.Goals as goal
 
 pub loop-e-init : goal.loop-e-init
@@ -10,9 +10,6 @@ overflow_cast-mark c = copied_fits _ _ _ c.requires _ (omega (arith, c.loop-e.in
 
 pub loop-e-preserved : goal.loop-e-preserved
 loop-e-preserved c = copied_more _ _ _ _ _ c.loop-e.invariant (omega (arith, c.loop-e.invariant.same_length))
-
-pub shape_of-marks : goal.shape_of-marks
-shape_of-marks c = search copied_length
 
 pub returns : goal.returns
 returns c = copied_all _ _ _ _ _ c.loop-e.invariant (omega (arith, c.loop-e.invariant.same_length, c.loop-e-test.false))

@@ -31,8 +31,5 @@ bounds-work-places-in-loop-p-2 c = search telling_stored
 pub loop-p-preserved : goal.loop-p-preserved
 loop-p-preserved c = search telling_more
 
-pub shape_of-work : goal.shape_of-work
-shape_of-work c = search telling_length
-
 pub returns : goal.returns
 returns c = search telling_all

@@ -16,9 +16,6 @@ bounds-turning-from c = rw c.from.ensures (search touring_entry)
 pub loop-p-preserved : goal.loop-p-preserved
 loop-p-preserved c = rw c.from.ensures (search touring_more)
 
-pub shape_of-work : goal.shape_of-work
-shape_of-work c = search touring_length
-
 pub returns : goal.returns
 returns c =
     record {
