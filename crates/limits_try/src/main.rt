@@ -7,27 +7,28 @@ use format::{AT_AREAS, AT_M, AT_N, LONGEST};
 use std::io;
 
 // The drawings tried: one point with loops, one point with dangling borders, and loops with a single dangling border.
-const LOOPS: usize = 0;
-
-const STAR: usize = 1;
-
-const MIXED: usize = 2;
+#[derive(Clone, Copy)]
+enum Shape {
+    Loops,
+    Star,
+    Mixed,
+}
 
 const SHORT: usize = LONGEST - 1;
 
 fn main(rt: HostRuntime) -> io::Result<()> {
-    most_borders(&rt, LOOPS)?;
-    most_borders(&rt, STAR)?;
-    most_borders(&rt, MIXED)?;
+    most_borders(&rt, Shape::Loops)?;
+    most_borders(&rt, Shape::Star)?;
+    most_borders(&rt, Shape::Mixed)?;
     one_too_many(&rt)
 }
 
 // 2,048 borders: n is 1, m+1 and 2; the last gives the longest map.
-fn most_borders(rt: &impl Print, kind: usize) -> io::Result<()> {
+fn most_borders(rt: &impl Print, shape: Shape) -> io::Result<()> {
     let mut turning = [0u16; 4096];
     let mut marks = [0u8; 2048];
-    fill_turning(&mut turning, kind);
-    fill_marks(&mut marks, kind);
+    fill_turning(&mut turning, shape);
+    fill_marks(&mut marks, shape);
     let mut out = [0u8; LONGEST];
     show_packed(rt, &turning, &marks, &mut out)?;
     show_part(rt, &out, SHORT)?;
@@ -50,21 +51,21 @@ fn one_too_many(rt: &impl Print) -> io::Result<()> {
 }
 
 // The turning list. Border e has its even end at the one point, and its odd end there too or at a point of its own.
-fn fill_turning(turning: &mut [u16], kind: usize) {
-    for h in 0..turning.len() {
-        turning[h] = entry(kind, h);
+fn fill_turning(turning: &mut [u16], shape: Shape) {
+    for (h, x) in turning.iter_mut().enumerate() {
+        *x = entry(shape, h);
     }
 }
 
-fn fill_marks(marks: &mut [u8], kind: usize) {
-    for e in 0..marks.len() {
-        marks[e] = if dangles(kind, e) { 1 } else { 0 };
+fn fill_marks(marks: &mut [u8], shape: Shape) {
+    for (e, mark) in marks.iter_mut().enumerate() {
+        *mark = u8::from(dangles(shape, e));
     }
 }
 
 // The entry of end h.
-fn entry(kind: usize, h: usize) -> u16 {
-    if !dangles(kind, h / 2) {
+fn entry(shape: Shape, h: usize) -> u16 {
+    if !dangles(shape, h / 2) {
         return ((h % 4096 + 1) % 4096) as u16;
     }
     if h % 2 == 1 {
@@ -73,11 +74,12 @@ fn entry(kind: usize, h: usize) -> u16 {
     ((h % 4096 + 2) % 4096) as u16
 }
 
-fn dangles(kind: usize, e: usize) -> bool {
-    if kind == MIXED {
-        return e == 5;
+fn dangles(shape: Shape, e: usize) -> bool {
+    match shape {
+        Shape::Loops => false,
+        Shape::Star => true,
+        Shape::Mixed => e == 5,
     }
-    kind == STAR
 }
 
 fn show_packed(rt: &impl Print, turning: &[u16], marks: &[u8], out: &mut [u8]) -> io::Result<()> {

@@ -1,6 +1,7 @@
 -- What is printed, by the answer of the read after the bytes that were given.
 --
 -- heard_end, heard_cut == where that answer is 0, and where it is not
+-- heard_ended, heard_failed == where it is 0, and where it is -1
 -- heard_within         == what is printed is within the memory at whose start it stands
 -- Assumes nothing.
 use mathlib.Core.Path.{◌≡◌, refl, sym, ap, ◌∙◌}
@@ -24,6 +25,14 @@ unfolding heard
 heard_cut (pos zero) whole cut n = absurd (n refl)
 heard_cut (pos (suc k)) whole cut n = refl
 heard_cut (negsuc k) whole cut n = refl
+
+pub heard_ended : (whole cut : List ℕ) → heard (pos zero) whole cut ≡ whole
+unfolding heard
+heard_ended whole cut = refl
+
+pub heard_failed : (whole cut : List ℕ) → heard (negsuc zero) whole cut ≡ cut
+unfolding heard
+heard_failed whole cut = refl
 
 pub heard_within : (z : ℤ) (whole cut old new : List ℕ) (r : ℕ) → r ≡ length (heard z whole cut)
     → new ≡ heard z whole cut ++ drop (length (heard z whole cut)) old → r ≤ length new

@@ -15,4 +15,4 @@
 
 mod streams;
 
-pub use streams::{Input, print, read_input};
+pub use streams::{Cut, print, read_input};

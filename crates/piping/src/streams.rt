@@ -1,34 +1,31 @@
 // What a program is given on standard input, and what it prints.
-ghost use Rattle.std.specs.Prelude.{◌≡◌, ◌<◌, ◌≤◌, pos, length, take, []};
+ghost use Rattle.std.specs.Prelude.{◌≡◌, ◌<◌, ◌≤◌, pos, length, take, [], IsTrue};
 ghost use Rattle.std.specs.Io.KnownBytes.{Consumes, IsAtEnd};
+ghost use Rattle.piping.specs.Input.{got_of, next_of};
 
 use std::io::{Read, Write};
 
-// `got` says how many bytes were read, `next` what one read more answered.
-#[derive(Clone, Copy)]
-pub struct Input {
+// The input was not read to its end: after `got` bytes a read failed.
+#[derive(Clone, Copy, Debug, PartialEq, Eq)]
+pub struct Cut {
     pub got: usize,
-    pub next: isize,
 }
 
-// Fills `bytes` from the reader until the input ends or `bytes` is full. `next` is 0 where the input ended, and
-// where `bytes` is full and nothing more is read; else the input was not read to its end: a read failed.
-pub fn read_input<R: Read>(from: &mut R, bytes: &mut [u8]) -> Input
-    ensures fits { result.got ≤ length bytes.new }
-    ensures prefix_len { result.got ≡ length (take result.got bytes.new) }
-    ensures next_value { result.got ≡ length bytes.new → result.next ≡ pos 0 }
-    ensures bytes { result.next ≡ pos 0 →
-        Consumes (R.remaining from.old) (R.remaining from.new) (take result.got bytes.new) }
-    ensures end { result.next ≡ pos 0 → result.got < length bytes.new → IsAtEnd (R.remaining from.new) }
+// Fills `bytes` from the reader until the input ends or `bytes` is full. How many bytes were read, where the input ended, and
+// where `bytes` is full and nothing more is read.
+pub fn read_input<R: Read>(from: &mut R, bytes: &mut [u8]) -> Result<usize, Cut>
+    ensures fits { got_of result ≤ length bytes.new }
+    ensures prefix_len { got_of result ≡ length (take (got_of result) bytes.new) }
+    ensures next_value { got_of result ≡ length bytes.new → next_of result ≡ pos 0 }
+    ensures bytes { next_of result ≡ pos 0 →
+        Consumes (R.remaining from.old) (R.remaining from.new) (take (got_of result) bytes.new) }
+    ensures end { next_of result ≡ pos 0 → got_of result < length bytes.new → IsAtEnd (R.remaining from.new) }
 {
     let got = read_full(from, bytes);
-    if got == bytes.len() {
-        return Input { got: got, next: 0 };
+    if got == bytes.len() || is_at_end(from) {
+        return Ok(got);
     }
-    Input {
-        got: got,
-        next: read_more(from),
-    }
+    Err(Cut { got })
 }
 
 // Writes a text to `output`; where that can't be done, says so to `errors`, after the program's name.
@@ -57,13 +54,9 @@ fn read_full<R: Read>(from: &mut R, bytes: &mut [u8]) -> usize
 }
 
 // `read_full` stops where the input ends and where a read fails: one read more tells them apart.
-fn read_more<R: Read>(from: &mut R) -> isize
-    ensures bytes { result ≡ pos 0 → Consumes (R.remaining from.old) (R.remaining from.new) [] }
-    ensures end { result ≡ pos 0 → IsAtEnd (R.remaining from.new) }
+fn is_at_end<R: Read>(from: &mut R) -> bool
+    ensures bytes { IsTrue result → Consumes (R.remaining from.old) (R.remaining from.new) [] }
+    ensures end { IsTrue result → IsAtEnd (R.remaining from.new) }
 {
-    let mut more = [0u8; 1];
-    match from.read(&mut more) {
-        Ok(n) => n as isize,
-        Err(_) => -1,
-    }
+    matches!(from.read(&mut [0]), Ok(0))
 }

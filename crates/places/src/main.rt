@@ -2,11 +2,13 @@
 // refusal (document 01, "Listing").
 #![tactic(auto)]
 
-ghost use Rattle.std.specs.Prelude.{◌≡◌, length};
+ghost use Rattle.std.specs.Prelude.{◌≡◌, ◌≤◌, length, take};
 ghost use Rattle.answers.specs.Lent.{laid};
 ghost use Rattle.text.specs.Listing.{refused_line, places_of};
 ghost use Rattle.text.specs.Heard.{heard};
+ghost use Rattle.piping.specs.Input.{got_of, next_of};
 
+use piping::Cut;
 use printout::ROOM;
 
 // One byte more than a text of a drawing can have by the bound `text_short` of the crate `text`: what fills it is refused.
@@ -15,24 +17,23 @@ const LIMIT: usize = 43034;
 fn main(rt: HostRuntime) {
     let mut text = input();
     let read = piping::read_input(&mut rt.stdin(), &mut text);
-    let got = read.got;
-    let next = read.next;
     let mut out = output();
-    let n = respond(&text[..got], next, &mut out);
+    let n = respond(&text, read, &mut out);
     piping::print(&mut rt.stdout(), &mut rt.stderr(), &out[..n], b"places");
 }
 
-// What is printed for a text, where the read after it answered `next`. Its length.
+// What is printed for the text that was read into `text`. Its length.
 // 01, row 17: "text not as below (tested before 1)". Bytes that are not the whole input are not a whole text.
-#[tactic(auto, using(piping::proofs::Ending::heard_end, piping::proofs::Ending::heard_cut))]
-fn respond(text: &[u8], next: isize, out: &mut [u8; ROOM]) -> usize
-    ensures value { result ≡ length (heard next (places_of text.now) (refused_line 17)) }
-    ensures out_after { out.new ≡ laid (heard next (places_of text.now) (refused_line 17)) out.old }
+#[tactic(auto, using(piping::proofs::Ending::heard_ended, piping::proofs::Ending::heard_failed))]
+fn respond(text: &[u8], read: Result<usize, Cut>, out: &mut [u8; ROOM]) -> usize
+    requires { got_of read ≤ length text.now }
+    ensures value { result ≡ length (heard (next_of read) (places_of (take (got_of read) text.now)) (refused_line 17)) }
+    ensures out_after { out.new ≡ laid (heard (next_of read) (places_of (take (got_of read) text.now)) (refused_line 17)) out.old }
 {
-    if next == 0 {
-        return printout::places(text, out);
+    match read {
+        Ok(got) => printout::places(&text[..got], out),
+        Err(_) => listing::refused(17, out),
     }
-    listing::refused(17, out)
 }
 
 fn input() -> [u8; LIMIT]

@@ -1,24 +1,20 @@
-use borrow.Author.Rules.{rules}
-use Rattle.reading.proofs.Numbers.{reading_start, reading_more, reading_stops, reading_over}
+use native.Mathlib.Omega.{arith}
+use Rattle.reading.proofs.Numbers.{reading_more, reading_stops, reading_over, stands}
 use Rattle.reading.proofs.fields.digits.Goals as goal
 
-pub loop-value-init : goal.loop-value-init
-loop-value-init c = reading_start c.args.text.now c.args.most c.args.at c.args.x (search rules) (search rules) (search rules)
+pub returns-in_default : goal.returns-in_default
+returns-in_default c = reading_stops _ _ _ _ _ c.loop-value.invariant c.in_default.ensures c.loop-value-test.true
 
-pub returns-then-d-eq10 : goal.returns-then-d-eq10
-returns-then-d-eq10 c =
-    reading_stops c.args.text.now c.args.most c.args.at c.args.x c.loop-value.next c.loop-value.value c.loop-value.invariant
-    c.digit-d.result c.digit-d.ensures c.if-d-eq10.true (search rules)
+pub overflow_add-value : goal.overflow_add-value
+overflow_add-value c =
+    let D = stands _ _ c.in-Some.ensures in
+    omega (arith, D.low)
 
 pub loop-value-smaller : goal.loop-value-smaller
-loop-value-smaller c =
-    (reading_more c.args.text.now c.args.most c.args.at c.args.x c.loop-value.next c.loop-value.value c.loop-value.invariant
-    c.digit-d.result c.digit-d.ensures c.if-d-eq10.false (search rules)).0
+loop-value-smaller c = (reading_more _ _ _ _ _ c.loop-value.invariant _ c.in-Some.ensures c.loop-value-test.true).0
 
 pub loop-value-preserved : goal.loop-value-preserved
-loop-value-preserved c =
-    (reading_more c.args.text.now c.args.most c.args.at c.args.x c.loop-value.next c.loop-value.value c.loop-value.invariant
-    c.digit-d.result c.digit-d.ensures c.if-d-eq10.false (search rules)).1
+loop-value-preserved c = (reading_more _ _ _ _ _ c.loop-value.invariant _ c.in-Some.ensures c.loop-value-test.true).1
 
 pub returns : goal.returns
-returns c = reading_over c.args.text.now c.args.most c.args.at c.args.x c.loop-value.next c.loop-value.value c.loop-value.invariant (search rules)
+returns c = reading_over _ _ _ _ _ c.loop-value.invariant (omega arith)

@@ -2,13 +2,11 @@
 use Rattle.reading.proofs.Rows.{line_missing, line_other, line_on}
 use Rattle.reading.proofs.lines.line.Goals as goal
 
-pub returns-in_default : goal.returns-in_default
-returns-in_default c = line_missing c.args.text.now c.args.at c.args.e c.in_default.ensures
+pub returns-in_err-number : goal.returns-in_err-number
+returns-in_err-number c = rw c.from_residual.ensures (line_missing _ _ c.in_err-number.ensures)
 
-pub returns-then-value-e : goal.returns-then-value-e
-returns-then-value-e c = line_other c.args.text.now c.args.at c.args.e c.in-At.value c.in-At.next c.in-At.ensures c.if-value-e.true
+pub returns-then-number-e : goal.returns-then-number-e
+returns-then-number-e c = line_other _ _ _ c.in_ok-number.ensures c.if-number-e.true
 
 pub returns : goal.returns
-returns c =
-    line_on c.args.text.now c.args.at c.args.e c.in-At.value c.in-At.next c.in-At.ensures
-    c.entries.result c.if-value-e.false c.entries.ensures
+returns c = line_on _ _ _ c.in_ok-number.ensures _ c.if-number-e.false c.entries.ensures

@@ -3,8 +3,8 @@ use Prim.Native.Nat.{◌-◌}
 use Rattle.reading.proofs.Passes.{Counting}
 use Rattle.reading.proofs.lists.count_lines.Given as goal
 
-abbrev pub invariant-loop-next : goal.invariant-loop-next
-invariant-loop-next l = Counting l.text l.at l.next l.e
+abbrev pub invariant-loop-rest : goal.invariant-loop-rest
+invariant-loop-rest l = Counting l.text l.rest l.e
 
-abbrev pub decreases-loop-next : goal.decreases-loop-next
-decreases-loop-next l = 2049 - l.e
+abbrev pub decreases-loop-rest : goal.decreases-loop-rest
+decreases-loop-rest l = 2049 - l.e

@@ -3,8 +3,8 @@ use Prim.Native.Nat.{◌-◌}
 use Rattle.reading.proofs.Passes.{Writing}
 use Rattle.reading.proofs.lists.write_lines.Given as goal
 
-abbrev pub invariant-loop-next : goal.invariant-loop-next
-invariant-loop-next l = Writing l.text l.at l.initial.turning l.initial.marks l.next l.e l.turning l.marks
+abbrev pub invariant-loop-row : goal.invariant-loop-row
+invariant-loop-row l = Writing l.text l.initial.turning l.initial.marks l.rest l.e l.turning l.marks
 
-abbrev pub decreases-loop-next : goal.decreases-loop-next
-decreases-loop-next l = 2048 - l.e
+abbrev pub decreases-loop-row : goal.decreases-loop-row
+decreases-loop-row l = 2048 - l.e

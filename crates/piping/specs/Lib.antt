@@ -1,0 +1,2 @@
+-- Standard input of a program: definitions.
+pub mod Input
