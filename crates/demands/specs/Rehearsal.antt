@@ -7,12 +7,13 @@
 -- rehearsed D i ks old == the answer of a rehearsal of D with these lists
 -- Rehearses D i ks r old new == r is what a rehearsal of D answers, and the lists old hold new after it
 -- Assumes nothing.
-use Rattle.std.specs.Prelude.{◌≡◌, List, ℕ, length}
+use Rattle.std.specs.Prelude.{◌≡◌, List, ℕ, length, Result}
 use Rattle.answers.specs.Answer.{Answer, told}
 use Rattle.answers.specs.Checks.{after, checked}
 use Rattle.answers.specs.Lent.{laid, leaves}
 use Rattle.answers.specs.Means.{packing_said, rehearsed_means}
-use Rattle.answers.specs.declared.cases.Rehearsed.{Rehearsed}
+use Rattle.answers.specs.declared.given.Rehearsal.{Rehearsal}
+use Rattle.answers.specs.declared.refusal.Refusal.{Refusal}
 use Rattle.drawing.specs.Drawing.{Drawing}
 use Rattle.drawing.specs.Session.{Outcome}
 use Rattle.drawing.specs.Book.{book_session}
@@ -39,7 +40,7 @@ pub record Lists : Type 0 where
 abbrev pub rehearsed : Drawing → ℕ → List ℕ → Lists → Answer Outcome
 rehearsed D i ks old = rehearsal_of D (length old.work) (length old.out) i ks (length old.statuses) (length old.answers)
 
-pub record Rehearses (D : Drawing) (i : ℕ) (ks : List ℕ) (r : Rehearsed) (old new : Lists) : Type 0 where
+pub record Rehearses (D : Drawing) (i : ℕ) (ks : List ℕ) (r : Result Rehearsal Refusal) (old new : Lists) : Type 0 where
   pub packs : Packs D old.work new.work old.out new.out (packing_said r)
   pub means : rehearsed_means r ≡ told (λ (o : Outcome). o.place) (rehearsed D i ks old)
   pub statuses : new.statuses ≡ leaves (λ (o : Outcome). laid (statuses_of o)) (rehearsed D i ks old) old.statuses

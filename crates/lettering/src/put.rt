@@ -9,7 +9,7 @@ ghost use Rattle.lettering.specs.Lettering.{begun, with_letter, with_two};
 
 use bits::bytes_for;
 use format::{AT_AREAS, AT_M, AT_N, HEADER};
-use lending::zero;
+use lending::clear;
 
 // A map on the way: at which bytes B and B* begin and the map ends, the position of the next letter, and how many letters before
 // it are round.
@@ -33,7 +33,7 @@ pub fn begin_map(out: &mut [u8], m: usize, n: usize) -> Letters
     let b = HEADER + bytes_for(2 * m);
     let c = b + bytes_for(2 * n - 2);
     let end = c + bytes_for(2 * (m + 1 - n));
-    zero(out, end);
+    clear(out, end);
     write_header(out, m, n);
     Letters {
         b,

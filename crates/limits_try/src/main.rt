@@ -2,7 +2,7 @@
 // the length of the map or its borders and points.
 #![tactic(auto)]
 
-use answers::{Opened, Packed};
+use answers::Refusal;
 use format::{AT_AREAS, AT_M, AT_N, LONGEST};
 use std::io;
 
@@ -86,17 +86,17 @@ fn show_packed(rt: &impl Print, turning: &[u16], marks: &[u8], out: &mut [u8]) -
     let mut work = [0u16; 12288];
     print!(rt; "pack ")?;
     match packing::pack(turning, marks, 0, &mut work, out) {
-        Packed::Length(k) => show(rt, 0, k, 0),
-        Packed::Crossing(a, b) => show(rt, 7, a, b),
-        Packed::Declined(k) => show(rt, k, 0, 0),
+        Ok(k) => show(rt, 0, k, 0),
+        Err(Refusal::Crossing(a, b)) => show(rt, 7, a, b),
+        Err(e) => show(rt, u8::from(e), 0, 0),
     }
 }
 
 fn show_opened(rt: &impl Print, map: &[u8]) -> io::Result<()> {
     print!(rt; "open ")?;
     match opening::open(map) {
-        Opened::Size(m, n) => show(rt, 0, m, n),
-        Opened::Declined(k) => show(rt, k, 0, 0),
+        Ok(size) => show(rt, 0, size.m, size.n),
+        Err(e) => show(rt, u8::from(e), 0, 0),
     }
 }
 

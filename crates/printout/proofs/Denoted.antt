@@ -52,13 +52,13 @@ pub denoted_printed : (s t k : List ℕ) (m : ℕ) → Denoted s m t k → place
 unfolding places_of
 denoted_printed s t k m N = ap (λ a. listed (packed a)) N.drawing
 
-declined_is : (k : ℕ) (a : Answer Drawing) → refused k ≡ told borders a → a ≡ refused k
-declined_is k (answer D) e = let z : ◌≡◌ {A = ℕ} 0 1 = cc in absurd (omega arith)
-declined_is k (refused_with j xs) e = cc
+declined_is : (k : ℕ) (xs : List ℕ) (a : Answer Drawing) → refused_with k xs ≡ told borders a → a ≡ refused_with k xs
+declined_is k xs (answer D) e = let z : ◌≡◌ {A = ℕ} 0 1 = cc in absurd (omega arith)
+declined_is k xs (refused_with j ys) e = cc
 
-pub declined_printed : (s : List ℕ) (k : ℕ) → refused k ≡ told borders (read_text s) → places_of s ≡ refused_line k
+pub declined_printed : (s : List ℕ) (k : ℕ) (xs : List ℕ) → refused_with k xs ≡ told borders (read_text s) → places_of s ≡ refused_line k
 unfolding places_of listed packed
-declined_printed s k e = ap (λ a. listed (packed a)) (declined_is k (read_text s) e)
+declined_printed s k xs e = ap (λ a. listed (packed a)) (declined_is k xs (read_text s) e)
 
 pub places_within : (s old new : List ℕ) (r : ℕ) → Stands (places_of s) r old new → r ≤ length new
 places_within s old new r S = stands_within old new r (places_of s) S

@@ -3,7 +3,7 @@
 -- room_enough      == packing with room to spare answers as with all that it asks for
 -- packed_opening   == what packing answers opens
 -- Mapped D n map   == the first n bytes of `map` are the map of D, and what is printed for them is what is printed for D
--- map_mapped, crossing_prints, declined_prints == what is printed for D after each answer of packing
+-- map_mapped, declined_prints == what is printed for D after each answer of packing
 -- Assumes nothing.
 use mathlib.Core.Path.{◌≡◌, refl, sym, ap, ◌∙◌}
 use mathlib.Core.Bool.{true}
@@ -18,9 +18,10 @@ use Rattle.count.specs.Below.{pick}
 use Rattle.answers.specs.Checks.{Check, after}
 use Rattle.answers.proofs.Steps.{tests_passed, answered_all, answered_none, checked_same}
 use Rattle.answers.specs.Answer.{Answer, answer, refused_with, refused, told}
-use Rattle.answers.specs.Means.{packed_means}
+use Rattle.answers.specs.Means.{number, carried, packed_means}
 use Rattle.answers.specs.Lent.{laid, leaves}
-use Rattle.answers.specs.declared.cases.Packed.{Packed}
+use Rattle.std.specs.Prelude.{Result, Ok, Err}
+use Rattle.answers.specs.declared.refusal.Refusal.{Refusal}
 use Rattle.drawing.specs.Drawing.{Drawing, borders}
 use Rattle.drawing.specs.Checks.{lengths_fit}
 use Rattle.drawing.proofs.Checks.{lengths_decides}
@@ -29,7 +30,6 @@ use Rattle.format.specs.Open.{open_refusal}
 use Rattle.format.proofs.Passes.{after_opens}
 use Rattle.format.specs.Pack.{room_fits, packed_bytes, pack_checks, pack_refusal, pack_of}
 use Rattle.text.specs.Listing.{refused_line, listed, packed, printed}
-use Rattle.answers.specs.declared.cases.Packed.TheVariants as the_case
 use Rattle.packing.proofs.Outcomes.{accepted, declined}
 use Rattle.agreement.proofs.Passed.{packed_opens}
 use Rattle.format.proofs.Refusals.{pack_accepts}
@@ -69,8 +69,8 @@ bytes_print : (s : List ℕ) → open_refusal s ≡ 0 → printed s ≡ listed (
 unfolding printed
 bytes_print s o = ap listed (after_opens s s o)
 
-module _ (D : Drawing) (work out : ℕ) (long : 12288 ≤ work) (wide : longest ≤ out) (r : Packed) (e : packed_means r ≡ told length (pack_of D work out)) where
-  pub map_mapped : (n : ℕ) (old map : List ℕ) → r ≡ the_case.Length n → map ≡ leaves laid (pack_of D work out) old → Mapped D n map
+module _ (D : Drawing) (work out : ℕ) (long : 12288 ≤ work) (wide : longest ≤ out) (r : Result ℕ Refusal) (e : packed_means r ≡ told length (pack_of D work out)) where
+  pub map_mapped : (n : ℕ) (old map : List ℕ) → r ≡ Ok n → map ≡ leaves laid (pack_of D work out) old → Mapped D n map
   map_mapped n old map h w =
       let A = accepted n old map (pack_of D work out) (sym (ap packed_means h) ∙ e) w in
       record {
@@ -83,8 +83,5 @@ module _ (D : Drawing) (work out : ℕ) (long : 12288 ≤ work) (wide : longest 
   unfolding listed
   refusal_prints k xs f = ap listed (sym (room_enough D work out long wide) ∙ declined k xs (pack_of D work out) f)
 
-  pub crossing_prints : (a b : ℕ) → r ≡ the_case.Crossing a b → listed (packed (answer D)) ≡ refused_line 7
-  crossing_prints a b h = refusal_prints 7 (a ∷ b ∷ []) (sym (ap packed_means h) ∙ e)
-
-  pub declined_prints : (k : ℕ) → r ≡ the_case.Declined k → listed (packed (answer D)) ≡ refused_line k
-  declined_prints k h = refusal_prints k [] (sym (ap packed_means h) ∙ e)
+  pub declined_prints : (k : Refusal) → r ≡ Err k → listed (packed (answer D)) ≡ refused_line (number k)
+  declined_prints k h = refusal_prints (number k) (carried k) (sym (ap packed_means h) ∙ e)

@@ -34,6 +34,6 @@ fn places_of(turning: &[u16], marks: &[u8], out: &mut [u8; ROOM]) -> usize
     let mut map = [0u8; LONGEST];
     match packing::pack(turning, marks, 0, &mut work, &mut map) {
         Ok(n) => listing::list(&map[..n], out),
-        Err(e) => listing::refused(u8::from(e), out),
+        Err(refusal) => listing::refused(u8::from(refusal), out),
     }
 }

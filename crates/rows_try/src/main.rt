@@ -2,7 +2,7 @@
 // they are the same in every line. Then the drawings of (a) to (c), which are accepted: 0.
 #![tactic(auto)]
 
-use answers::{Area, Count, Opened, Packed, Parsed, Place, PlaceAnswer, Point, Unpacked};
+use answers::{Area, Place, Point, Refusal};
 use format::LONGEST;
 use std::io;
 
@@ -49,9 +49,9 @@ fn open_rows(rt: &impl Print) -> io::Result<()> {
 // 13 to 17: a place, a point, an area that is not there, a list that is too short, and a text whose first line is empty.
 fn call_rows(rt: &impl Print) -> io::Result<()> {
     let stub = b"\x01\x00\x02\x00\x01\x00\x03\x02";
-    row(rt, 13, of_place(map::cross(stub, Place(0))))?;
-    row(rt, 14, of_count(map::degree(stub, Point(0))))?;
-    row(rt, 15, of_count(map::sides(stub, Area(0))))?;
+    row(rt, 13, number(map::cross(stub, Place(0))))?;
+    row(rt, 14, number(map::degree(stub, Point(0))))?;
+    row(rt, 15, number(map::sides(stub, Area(0))))?;
     row(rt, 16, unpack_short(stub))?;
     row(rt, 17, parse(b"\nborder first second mark\n"))
 }
@@ -82,55 +82,36 @@ fn pack_short(turning: &[u16], marks: &[u8]) -> u8 {
 }
 
 fn pack_into(turning: &[u16], marks: &[u8], work: &mut [u16], out: &mut [u8]) -> u8 {
-    match packing::pack(turning, marks, 0, work, out) {
-        Packed::Length(k) => 0,
-        Packed::Crossing(a, b) => 7,
-        Packed::Declined(k) => k,
-    }
+    number(packing::pack(turning, marks, 0, work, out))
 }
 
 // The number of the refusal of finding marks, or 0 where they are found.
 fn suggest(turning: &[u16]) -> u8 {
     let mut marks = [255u8; 2];
     let mut work = [0u16; 12];
-    suggesting::suggest(turning, &mut marks, &mut work)
+    number(suggesting::suggest(turning, &mut marks, &mut work))
 }
 
 fn open(map: &[u8]) -> u8 {
-    match opening::open(map) {
-        Opened::Size(m, n) => 0,
-        Opened::Declined(k) => k,
-    }
+    number(opening::open(map))
 }
 
-fn of_place(a: PlaceAnswer) -> u8 {
+// The number of a refusal, or 0 where there is an answer.
+fn number<T: Drop>(a: Result<T, Refusal>) -> u8 {
     match a {
-        PlaceAnswer::At(p) => 0,
-        PlaceAnswer::Declined(k) => k,
-    }
-}
-
-fn of_count(a: Count) -> u8 {
-    match a {
-        Count::Of(x) => 0,
-        Count::Declined(k) => k,
+        Ok(_) => 0,
+        Err(e) => u8::from(e),
     }
 }
 
 fn unpack_short(map: &[u8]) -> u8 {
     let mut turning = [0u16; 1];
     let mut marks = [0u8; 1];
-    match unpacking::unpack(map, &mut turning, &mut marks) {
-        Unpacked::Borders(m) => 0,
-        Unpacked::Declined(k) => k,
-    }
+    number(unpacking::unpack(map, &mut turning, &mut marks))
 }
 
 fn parse(text: &[u8]) -> u8 {
     let mut turning = [0u16; 4096];
     let mut marks = [0u8; 2048];
-    match reading::parse(text, &mut turning, &mut marks) {
-        Parsed::Borders(m) => 0,
-        Parsed::Declined(k) => k,
-    }
+    number(reading::parse(text, &mut turning, &mut marks))
 }

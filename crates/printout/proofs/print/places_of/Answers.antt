@@ -4,39 +4,32 @@ use native.Mathlib.Omega.{arith}
 use lib.Seq.{length-take-le}
 use Rattle.drawing.specs.Drawing.{lent}
 use Rattle.printing.proofs.Stands.{stands_as}
-use Rattle.printout.proofs.Mapped.{Mapped, map_mapped, crossing_prints, declined_prints}
+use Rattle.printout.proofs.Mapped.{Mapped, map_mapped, declined_prints}
 use Rattle.printout.proofs.print.places_of.Goals as goal
 
 pub slice_bounds-map-end : goal.slice_bounds-map-end
 slice_bounds-map-end c =
-    let M : Mapped (lent c.args.turning.now c.args.marks.now 0) c.in-Length.n c.pack.new.out
-    = map_mapped _ _ _ (omega arith) (omega arith) c.pack.result c.pack.ensures.answers _ _ _ c.in-Length.is c.pack.ensures.leaves.output in
+    let M : Mapped (lent c.args.turning.now c.args.marks.now 0) c.in-Ok.n c.pack.new.out
+    = map_mapped _ _ _ (omega arith) (omega arith) c.pack.result c.pack.ensures.answers _ _ _ c.in-Ok.is c.pack.ensures.leaves.output in
     M.within
 
 pub slice_bounds-list-end : goal.slice_bounds-list-end
 slice_bounds-list-end c =
-    let M : Mapped (lent c.args.turning.now c.args.marks.now 0) c.in-Length.n c.pack.new.out
-    = map_mapped _ _ _ (omega arith) (omega arith) c.pack.result c.pack.ensures.answers _ _ _ c.in-Length.is c.pack.ensures.leaves.output in
+    let M : Mapped (lent c.args.turning.now c.args.marks.now 0) c.in-Ok.n c.pack.new.out
+    = map_mapped _ _ _ (omega arith) (omega arith) c.pack.result c.pack.ensures.answers _ _ _ c.in-Ok.is c.pack.ensures.leaves.output in
     sym (length-take-le _ _ M.within)
 
-pub returns-in-Length : goal.returns-in-Length
-returns-in-Length c =
-    let M : Mapped (lent c.args.turning.now c.args.marks.now 0) c.in-Length.n c.pack.new.out
-    = map_mapped _ _ _ (omega arith) (omega arith) c.pack.result c.pack.ensures.answers _ _ _ c.in-Length.is c.pack.ensures.leaves.output in
+pub returns-in-Ok : goal.returns-in-Ok
+returns-in-Ok c =
+    let M : Mapped (lent c.args.turning.now c.args.marks.now 0) c.in-Ok.n c.pack.new.out
+    = map_mapped _ _ _ (omega arith) (omega arith) c.pack.result c.pack.ensures.answers _ _ _ c.in-Ok.is c.pack.ensures.leaves.output in
     let t =
     stands_as _ _ _ _ _ (sym M.prints) (c.list.ensures.value, c.list.ensures.out_after) in
     record { value = t.0; out_after = t.1 }
 
-pub returns-in-Crossing : goal.returns-in-Crossing
-returns-in-Crossing c =
+pub returns-in-Err : goal.returns-in-Err
+returns-in-Err c =
     let t =
-    stands_as _ _ _ _ _ (crossing_prints (lent c.args.turning.now c.args.marks.now 0) _ _ (omega arith) (omega arith) c.pack.result c.pack.ensures.answers _ _ c.in-Crossing.is)
+    stands_as _ _ _ _ _ (declined_prints (lent c.args.turning.now c.args.marks.now 0) _ _ (omega arith) (omega arith) c.pack.result c.pack.ensures.answers _ c.in-Err.is)
     (c.refused.ensures.value, c.refused.ensures.out_after) in
-    record { value = t.0; out_after = t.1 }
-
-pub returns-in-Declined : goal.returns-in-Declined
-returns-in-Declined c =
-    let t =
-    stands_as _ _ _ _ _ (declined_prints (lent c.args.turning.now c.args.marks.now 0) _ _ (omega arith) (omega arith) c.pack.result c.pack.ensures.answers _ c.in-Declined.is)
-    (c.refused-in-Declined.ensures.value, c.refused-in-Declined.ensures.out_after) in
     record { value = t.0; out_after = t.1 }
