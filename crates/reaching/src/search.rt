@@ -1,6 +1,7 @@
 // The search: point after point, over the borders that the marks lent allow; where none are lent, over all. The first third of
 // the working list flags the ends reached, the second queues them, the last notes the borders across which a point was first
-// reached.
+// reached. The lists are lent and not kept in a struct: what holds of the working list changes on the way, so that a struct would
+// spare the contracts nothing.
 ghost use Rattle.std.specs.Prelude.{◌≡◌, List, ℕ, ◌*◌, ◌<◌, length};
 ghost use Rattle.lending.specs.Lists.{Blank, Kept};
 ghost use Rattle.checking.specs.Lent.{Turns};
