@@ -66,7 +66,7 @@ fn signed(turn: Turn) -> usize
     if turn.round { at.0 + GONE_ROUND } else { at.0 }
 }
 
-// One call at a place. 13: "place not 1 to 2m".
+// One call at a place; NoPlace: "place not 1 to 2m".
 #[tactic(auto, using(crate::proofs::Telling::tells_no_place, crate::proofs::Telling::tells_past, crate::proofs::Telling::place_at, crate::proofs::Telling::tells_inside))]
 pub fn tell(survey: &Survey, call: Call, place: Place) -> Result<Found, Refusal>
     ensures { Gives (meant call) (map_answer survey.now.map.now (meant call) place.0) place.0 result }

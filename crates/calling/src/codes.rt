@@ -13,7 +13,7 @@ pub enum Call {
     Area,
 }
 
-// The call with a code; 255: "no call has the code".
+// The call with a code; NoCall where no call has it.
 impl TryFrom<u8> for Call {
     type Error = Refusal;
 

@@ -2,7 +2,7 @@
 //
 //     session   a first number and a list of calls: every answer in order, and the place left at the end
 //
-// Conventions. A call is lent as its code, one byte. The first number is any number. For call i, entry i of
+// Conventions. A call is lent as its code, one byte (`Call` of the crate `calling`). The first number is any number. For call i, entry i of
 // `statuses` is 0 or the number of its refusal, entry i of `answers` its answer, with bit 15 where a turn has gone
 // round, and 0 where it is refused; the entries beyond the calls stay as they were. The whole session is declined
 // by opening's checks, where the bytes do not open, by 2, where a lent list is shorter than the list of calls, and

@@ -22,6 +22,7 @@ const FEW: usize = 16;
 const PLACES_A_CALL: usize = 40;
 
 // Runs the calls on the map, from the first number on.
+#[tactic(auto, using(answers::proofs::Passing::passed_up, opening::proofs::Passed::open_passes, crate::proofs::Checked::ran_declines, crate::proofs::Checked::ran_short_statuses, crate::proofs::Checked::ran_short_answers, crate::proofs::Checked::ran_no_call, crate::proofs::Checked::ran_answers), unfolding(answers::specs::Lent::leaves))]
 pub fn session(
     map: &[u8],
     first: Place,
@@ -60,7 +61,8 @@ fn is_short(map: &[u8], calls: &[u8]) -> bool {
     calls.len() < FEW + bits_a(map) / PLACES_A_CALL
 }
 
-// Many calls, on bytes that open. A function of its own, so that the lists are not on the stack of a short session.
+// Many calls, on bytes that open. A function of its own, and not inlined, so that the lists are not on the stack of a short session.
+#[inline(never)]
 fn run_surveyed(
     map: &[u8],
     first: Place,
@@ -78,7 +80,8 @@ fn run_surveyed(
     run(&lists.survey(map), first, calls, statuses, answers)
 }
 
-// The calls in order: "It holds one number, the place".
+// The calls in order: "It holds one number, the place". The lists are written by their index: of what is written through a zip of
+// `iter_mut` a proof knows nothing.
 #[tactic(auto, using(crate::proofs::Passing::partway_start, crate::proofs::Coded::code_read, crate::proofs::Passing::partway_end))]
 fn run(
     survey: &Survey,
