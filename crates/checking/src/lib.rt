@@ -15,7 +15,7 @@
 //
 // The checks are those of document 01, the table of refusals; 2 is in the crate `packing`, 5 in `reaching`, 7 in
 // `crossing`. The definitions that the contracts cite are in specs/ and in the crate `drawing`; the laws that a
-// caller meets the requirements with, and reads the answers with, are in proofs/Laws.antt and proofs/Working.antt.
+// caller meets the requirements with, and reads the answers with, are in proofs/Laws.antt.
 #![tactic(auto)]
 
 mod distinct;

@@ -13,7 +13,13 @@ use answers::Refusal;
 use format::LONGEST;
 
 // Packs a drawing into `out`. Where a check declines, `out` stays as it was.
-pub fn pack(turning: &[u16], marks: &[u8], start: usize, work: &mut [u16], out: &mut [u8]) -> Result<usize, Refusal>
+pub fn pack(
+    turning: &[u16],
+    marks: &[u8],
+    start: usize,
+    work: &mut [u16],
+    out: &mut [u8],
+) -> Result<usize, Refusal>
     ensures { Packs (lent turning.now marks.now start)
         work.old work.new out.old out.new (packed_means result) }
 {
@@ -37,7 +43,13 @@ pub fn pack(turning: &[u16], marks: &[u8], start: usize, work: &mut [u16], out: 
 }
 
 // Checks 4 to 6, and the rest.
-fn checked(turning: &[u16], marks: &[u8], start: usize, work: &mut [u16], out: &mut [u8]) -> Result<usize, Refusal>
+fn checked(
+    turning: &[u16],
+    marks: &[u8],
+    start: usize,
+    work: &mut [u16],
+    out: &mut [u8],
+) -> Result<usize, Refusal>
     requires { LengthsFit (lent turning.now marks.now start)
         × InRange (lent turning.now marks.now start)
         × Blank (3 * length turning.now) work.old
