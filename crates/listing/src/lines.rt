@@ -35,7 +35,7 @@ pub fn put_lines(map: &[u8], page: &mut Page)
 }
 
 // The same, from lists of the map. `ones` is the running count: how many of the places before this one are marked.
-#[tactic(auto, using(text::proofs::Running::counts_le, text::proofs::Running::kind_read, crate::proofs::Listed::lined_start, crate::proofs::Listed::lined_position, crate::proofs::Listed::lined_room, crate::proofs::Listed::lined_fits, crate::proofs::Listed::lined_step, crate::proofs::Listed::lined_end))]
+#[tactic(auto, using(text::proofs::Running::counts_le, text::proofs::Running::kind_read, crate::proofs::Listed::lined_position, crate::proofs::Listed::lined_room, crate::proofs::Listed::lined_fits, crate::proofs::Listed::lined_end))]
 fn put_surveyed(
     map: &[u8],
     mates: &[u16; 4096],
