@@ -30,7 +30,7 @@ pub fn put_lines(map: &[u8], page: &mut Page)
 }
 
 // The same, looked up in the lists of a map. `ones` is the running count: how many of the places before this one are marked.
-#[tactic(auto, using(text::proofs::Running::counts_le, text::proofs::Running::kind_read, crate::proofs::Listed::lined_start, crate::proofs::Listed::lined_position, crate::proofs::Listed::lined_room, crate::proofs::Listed::lined_fits, crate::proofs::Listed::lined_step, crate::proofs::Listed::lined_end))]
+#[tactic(auto, using(text::proofs::Running::counts_le, text::proofs::Running::kind_read, crate::proofs::Listed::lined_position, crate::proofs::Listed::lined_room, crate::proofs::Listed::lined_fits, crate::proofs::Listed::lined_end))]
 fn put_surveyed(survey: &Survey, page: &mut Page)
     requires { page.old.at + 22 * most_ends ≤ length page.old.out.now }
     ensures { Puts page.old (place_lines (word_in survey.now.map.now) 0 (bits_a (size_in survey.now.map.now))) page.new }
