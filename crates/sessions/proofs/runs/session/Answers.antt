@@ -32,14 +32,24 @@ returns-then-not-are_calls c =
     c.in_ok-check.ensures.value (omega (arith, c.if-statuses-calls.false)) (omega (arith, c.if-answers-calls.false)) c.are_calls.result c.are_calls.ensures (ap not c.if-not-are_calls.true) in
     record { result_value = t.0; statuses_after = t.1.0; answers_after = t.1.1 }
 
-pub run_open-requires : goal.run_open-requires
-run_open-requires c =
-    (open_passes _ c.in_ok-check.ensures.value, record { statuses = omega (arith, c.if-statuses-calls.false); answers = omega (arith, c.if-answers-calls.false) })
+pub empty-requires : goal.empty-requires
+empty-requires c = open_passes _ c.in_ok-check.ensures.value
+
+pub run_surveyed-requires-clause-opens : goal.run_surveyed-requires-clause-opens
+run_surveyed-requires-clause-opens c = open_passes _ c.in_ok-check.ensures.value
+
+pub returns-then-is_short : goal.returns-then-is_short
+returns-then-is_short c =
+    let t =
+    session_answers c.args.map.now c.args.first.0 c.args.calls.now c.args.statuses.now c.args.answers.now
+    c.in_ok-check.ensures.value (omega (arith, c.if-statuses-calls.false)) (omega (arith, c.if-answers-calls.false)) c.are_calls.result c.are_calls.ensures
+    c.run.result.0 _ _ (ap not c.if-not-are_calls.false) (rw c.empty.ensures at c.run.ensures) in
+    record { result_value = t.0; statuses_after = t.1.0; answers_after = t.1.1 }
 
 pub returns : goal.returns
 returns c =
     let t =
     session_answers c.args.map.now c.args.first.0 c.args.calls.now c.args.statuses.now c.args.answers.now
     c.in_ok-check.ensures.value (omega (arith, c.if-statuses-calls.false)) (omega (arith, c.if-answers-calls.false)) c.are_calls.result c.are_calls.ensures
-    c.run_open.result.0 _ _ (ap not c.if-not-are_calls.false) c.run_open.ensures in
+    c.run_surveyed.result.0 _ _ (ap not c.if-not-are_calls.false) c.run_surveyed.ensures in
     record { result_value = t.0; statuses_after = t.1.0; answers_after = t.1.1 }
