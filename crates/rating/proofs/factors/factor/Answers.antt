@@ -10,11 +10,11 @@ use Rattle.rating.proofs.factors.factor.Goals as goal
 pub returns-in_err-check_cell : goal.returns-in_err-check_cell
 returns-in_err-check_cell c = passed_up _ _ _ _ c.from_residual.ensures.1 (factor_declines _ _ _ _ _ _ c.in_err-check_cell.ensures)
 
-pub returns-then-not-lists_fit : goal.returns-then-not-lists_fit
-returns-then-not-lists_fit c = let h : answer (tt {0}) ≡ cell_check c.args.map.now Kind.area c.args.area.0 = c.in_ok-check_cell.ensures in search factor_lists
+pub returns-then-not-fits : goal.returns-then-not-fits
+returns-then-not-fits c = let h : answer (tt {0}) ≡ cell_check c.args.map.now Kind.area c.args.area.0 = c.in_ok-check_cell.ensures in search factor_lists
 
-pub factor_in-requires : goal.factor_in-requires
-factor_in-requires c = let h : answer (tt {0}) ≡ cell_check c.args.map.now Kind.area c.args.area.0 = c.in_ok-check_cell.ensures in search entry_lent
+pub factor-requires : goal.factor-requires
+factor-requires c = let h : answer (tt {0}) ≡ cell_check c.args.map.now Kind.area c.args.area.0 = c.in_ok-check_cell.ensures in search entry_lent
 
 pub mean_across-requires : goal.mean_across-requires
 mean_across-requires c = let h : answer (tt {0}) ≡ cell_check c.args.map.now Kind.area c.args.area.0 = c.in_ok-check_cell.ensures in (search cell_numbered, search lists_lent)

@@ -6,4 +6,4 @@ pub loop-k-init : goal.loop-k-init
 loop-k-init c = (omega arith, search sum_none)
 
 pub loop-k-preserved : goal.loop-k-preserved
-loop-k-preserved c = sum_more _ _ _ _ _ _ _ _ c.loop-k-test.true c.from.ensures c.factor_in.ensures c.add-sum.ensures c.loop-k.invariant
+loop-k-preserved c = sum_more _ _ _ _ _ _ _ _ c.loop-k-test.true c.from.ensures c.factor.ensures c.add-sum.ensures c.loop-k.invariant

@@ -4,4 +4,4 @@ use Rattle.tariff.specs.Tariff.{sum_across}
 use Rattle.rating.proofs.sides.sum_in.Given as goal
 
 abbrev pub invariant-loop-k : goal.invariant-loop-k
-invariant-loop-k l = (l.sum.count ≤ l.k-index) × (l.sum ≡ sum_across l.kinds l.values (take l.k-index l.list))
+invariant-loop-k l = (l.sum.count ≤ l.k-index) × (l.sum ≡ sum_across l.tariff.kinds.now l.tariff.values.now (take l.k-index l.list))
