@@ -11,6 +11,7 @@ use landing::land;
 const FLAGS: usize = 2050;
 
 // How many other areas lie across the sides of an area.
+#[tactic(auto, using(landing::proofs::Gathering::landed_fits, landing::proofs::Gathering::landed_long, crate::proofs::Counting::countable_all, crate::proofs::Counting::counted_all))]
 pub fn neighbours_at(map: &[u8], area: Area) -> usize
     requires { Numbered map.now (Cell.Area area) }
     ensures { result ≡ neighbours_at map.now area.0 }

@@ -35,6 +35,7 @@ pub fn factor(map: &[u8], area: Area, kinds: &[u8], values: &[f64]) -> Result<f6
 }
 
 // The mean across the sides of an area whose factor is not known; 19 where no known one is across.
+#[tactic(auto, using(crate::proofs::Prices::price_none, crate::proofs::Prices::price_mean))]
 fn mean_across(map: &[u8], area: Area, tariff: &Tariff) -> Result<f64, Refusal>
     requires { Numbered map.now (Cell.Area area)
         × TariffFits (cells_in (size_in map.now) Kind.area) tariff.now.kinds.now tariff.now.values.now }

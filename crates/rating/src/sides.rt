@@ -14,6 +14,7 @@ use pricing::{Tariff, add};
 use tariff::Running;
 
 // The sum of the known factors across the sides of an area, with its count.
+#[tactic(auto, using(landing::proofs::Gathering::landed_fits, landing::proofs::Gathering::landed_long, crate::proofs::Summing::summable_all, crate::proofs::Summing::summed_all))]
 pub fn sum_across(map: &[u8], area: Area, tariff: &Tariff) -> Running
     requires { Numbered map.now (Cell.Area area)
         × TariffFits (cells_in (size_in map.now) Kind.area) tariff.now.kinds.now tariff.now.values.now }
@@ -25,6 +26,7 @@ pub fn sum_across(map: &[u8], area: Area, tariff: &Tariff) -> Running
 }
 
 // The sum of the known factors of the areas of a list, in order.
+#[tactic(auto, using(crate::proofs::Summing::sum_none, crate::proofs::Summing::sum_few, crate::proofs::Summing::sum_more))]
 fn sum_in(list: &[u16], tariff: &Tariff) -> Running
     requires { Summable list.now (length list.now) tariff.now.kinds.now tariff.now.values.now }
     ensures { result ≡ sum_across tariff.now.kinds.now tariff.now.values.now list.now }
