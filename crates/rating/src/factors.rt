@@ -19,6 +19,7 @@ use pricing::{Tariff, hold, mean_of};
 use tariff::Factor;
 
 // The factor of an area: opening's checks, 15, 18, 19, or the number.
+#[tactic(auto, using(answers::proofs::Passing::passed_up, crate::proofs::Prices::factor_declines, crate::proofs::Prices::factor_lists, crate::proofs::Prices::entry_lent, crate::proofs::Prices::factor_own, crate::proofs::Prices::factor_unknown))]
 pub fn factor(map: &[u8], area: Area, kinds: &[u8], values: &[f64]) -> Result<f64, Refusal>
     ensures { factor_means result ≡ factor_of map.now area.0 kinds.now values.now }
 {
