@@ -63,7 +63,7 @@ fn walked(n: usize, k: usize) -> usize {
 
 // The first place about a point, in turning order from its first position f on, whose crossing lands at v; 0 where none does.
 // Turning leads to higher positions until the point's last. Of more than `most` places the others are not looked at: where they
-// may be needed, the answer is None. The loop is not a `for`, which yields no place.
+// may be needed, the answer is None. The loop is no `for`: document 01 wants it to yield its place by break.
 fn join_from(survey: &Survey, v: Point, most: usize, f: usize) -> Option<usize>
     requires { Start survey.now.map.now f }
     ensures { Early (bits_a (size_in survey.now.map.now)) most (joined_from survey.now.map.now v.0 f) result }

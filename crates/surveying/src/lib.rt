@@ -24,6 +24,6 @@ mod lists;
 mod moves;
 mod pass;
 
-pub use lists::{Lists, MOST_PLACES};
+pub use lists::Lists;
 pub use moves::Survey;
 pub use pass::survey;

@@ -6,7 +6,7 @@ use crate::moves::Survey;
 use crate::pass::survey;
 
 // The most places of a map.
-pub const MOST_PLACES: usize = 4096;
+const MOST_PLACES: usize = 4096;
 
 // Room for the lists of the largest map, on the stack of whoever asks.
 #[derive(Drop)]

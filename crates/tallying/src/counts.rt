@@ -12,7 +12,8 @@ use surveying::{Lists, Survey};
 // The most areas of a map: 2,048 borders on one point.
 pub const MOST_AREAS: usize = 2049;
 
-// Fills the lists of a map: how many sides each area has, and its first place.
+// Fills the lists of a map: how many sides each area has, and its first place. Two lists, not one of pairs: the contract of `tally`,
+// which docs/AUDIT.md cites, says of each what it holds after.
 pub fn tally(map: &[u8], sides: &mut [u16; MOST_AREAS], firsts: &mut [u16; MOST_AREAS])
     requires { (open_refusal map.now ≡ 0) × Blank sides.old × Blank firsts.old }
     ensures sides_after { sides.new ≡ laid (sides_in map.now) sides.old }
