@@ -17,10 +17,10 @@ pub fn list(map: &[u8], out: &mut [u8; ROOM]) -> usize
     ensures value { result ≡ length (printed map.now) }
     ensures out_after { out.new ≡ laid (printed map.now) out.old }
 {
-    if let Err(e) = opening::check(map) {
-        return refused(u8::from(e), out);
+    match opening::check(map) {
+        Ok(()) => put_listing(map, out),
+        Err(e) => refused(u8::from(e), out),
     }
-    put_listing(map, out)
 }
 
 // The line of refusal k. Its length.

@@ -10,7 +10,7 @@
 //
 // The sources are document 01, "Listing": the program "reads a drawing from standard input"; and document 02, 1/14:
 // "A program reads a map's bytes from standard input and prints it". The crate `text`, specs/Heard, says what a program prints where
-// its input was not read to its end, and proofs/Ending.antt has the laws for both cases.
+// its input was not read to its end, specs/Input which of its numbers `read_input` answers, and proofs/Ending.antt has the laws for both cases.
 #![tactic(auto)]
 
 mod streams;

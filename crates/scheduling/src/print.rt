@@ -19,10 +19,10 @@ pub fn schedule(map: &[u8], out: &mut [u8; ROOM]) -> usize
     ensures value { result ≡ length (schedule_of map.now) }
     ensures out_after { out.new ≡ laid (schedule_of map.now) out.old }
 {
-    if let Err(e) = opening::check(map) {
-        return refused(u8::from(e), out);
+    match opening::check(map) {
+        Ok(()) => put_schedule(map, out),
+        Err(e) => refused(u8::from(e), out),
     }
-    put_schedule(map, out)
 }
 
 // The line of refusal k. Its length.
