@@ -4,6 +4,7 @@ ghost use Rattle.format.specs.Sessions.{are_calls};
 
 use calling::AREA;
 
+
 // Whether each byte is the code of a call.
 pub fn are_calls(calls: &[u8]) -> bool
     ensures { result ≡ are_calls calls.now }
