@@ -5,7 +5,6 @@ ghost use Rattle.answers.specs.Answer.{told};
 ghost use Rattle.answers.specs.Lent.{laid, leaves};
 ghost use Rattle.drawing.specs.Session.{Outcome};
 ghost use Rattle.format.specs.Calls.{map_session};
-ghost use Rattle.format.specs.Open.{open_refusal};
 ghost use Rattle.format.specs.Sessions.{are_calls, calls_of, ran_of, statuses_of, values_of};
 ghost use Rattle.sessions.specs.Runs.{Room, Leaves};
 
@@ -13,6 +12,7 @@ use crate::codes::are_calls;
 use answers::{Place, Refusal};
 use calling::{Call, tell};
 use layout::bits_a;
+use opening::{OpenMap, open_map};
 use surveying::{Lists, Survey};
 
 // A list of calls is short that has fewer than FEW, and one more for so many places: a call that walks through the bytes takes
@@ -22,7 +22,7 @@ const FEW: usize = 16;
 const PLACES_A_CALL: usize = 40;
 
 // Runs the calls on the map, from the first number on.
-#[tactic(auto, using(answers::proofs::Passing::passed_up, opening::proofs::Passed::open_passes, crate::proofs::Checked::ran_declines, crate::proofs::Checked::ran_short_statuses, crate::proofs::Checked::ran_short_answers, crate::proofs::Checked::ran_no_call, crate::proofs::Checked::ran_answers), unfolding(answers::specs::Lent::leaves))]
+#[tactic(auto, using(answers::proofs::Passing::passed_up, crate::proofs::Checked::ran_declines, crate::proofs::Checked::ran_short_statuses, crate::proofs::Checked::ran_short_answers, crate::proofs::Checked::ran_no_call, crate::proofs::Checked::ran_answers), unfolding(answers::specs::Lent::leaves))]
 pub fn session(
     map: &[u8],
     first: Place,
@@ -39,7 +39,7 @@ pub fn session(
         (ran_of map.now first.0 calls.now (length statuses.old) (length answers.old))
         answers.old }
 {
-    opening::check(map)?;
+    let open = open_map(map)?;
     if statuses.len() < calls.len() {
         return Err(Refusal::Room);
     }
@@ -50,9 +50,9 @@ pub fn session(
         return Err(Refusal::NoCall);
     }
     if is_short(map, calls) {
-        return Ok(run(&Survey::empty(map), first, calls, statuses, answers));
+        return Ok(run(&Survey::empty(open), first, calls, statuses, answers));
     }
-    Ok(run_surveyed(map, first, calls, statuses, answers))
+    Ok(run_surveyed(open, first, calls, statuses, answers))
 }
 
 // Whether a list of calls is short: few calls walk through the bytes, many look up in lists of the whole map. The answers are the
@@ -64,16 +64,15 @@ fn is_short(map: &[u8], calls: &[u8]) -> bool {
 // Many calls, on bytes that open. A function of its own, and not inlined, so that the lists are not on the stack of a short session.
 #[inline(never)]
 fn run_surveyed(
-    map: &[u8],
+    map: OpenMap<'_>,
     first: Place,
     calls: &[u8],
     statuses: &mut [u8],
     answers: &mut [u16],
 ) -> Place
-    requires opens { open_refusal map.now ≡ 0 }
     requires room { Room calls.now statuses.old answers.old }
     requires codes { are_calls calls.now ≡ true }
-    ensures { Leaves (map_session map.now first.0 (calls_of calls.now))
+    ensures { Leaves (map_session map.entry.bytes.now first.0 (calls_of calls.now))
         result.0 statuses.old answers.old statuses.new answers.new }
 {
     let mut lists = Lists::new();
