@@ -45,9 +45,6 @@ use Rattle.surveying.specs.Surveyed.{Mates, Numbers}
 use Rattle.surveying.proofs.Laws.{listed_across}
 use Rattle.landing.specs.Landed.{Landed}
 
-pub at_least : (n m : ℕ) → n ≡ m → n ≤ m
-at_least n m e = omega arith
-
 abbrev pub area_of : List ℕ → ℕ → ℕ
 area_of s p = number (seen square (word_in s)) p
 

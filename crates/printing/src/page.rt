@@ -87,6 +87,7 @@ fn put_digits(out: &mut [u8], end: usize, x: usize)
     requires { (length (decimal x) ≤ end) × (end ≤ length out.old) }
     ensures { Wrote out.old (end - length (decimal x)) (decimal x) end out.new }
 {
+    // the digits come from the last on, and how many they are shows only at the end: no iterator gives their places
     let mut i = end;
     let mut rest = x;
     while 10 <= rest {
