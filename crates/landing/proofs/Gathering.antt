@@ -6,7 +6,8 @@
 -- gathered_end    == after the last
 -- Walking         == the same from side to side, along the walk; walking_start, walking_more, walking_end
 -- landed_count, landed_most, landed_at, landed_range == how many a filled list has, and what: numbers of areas
--- landed_fits, landed_long == it has room for them, so that cut where they end it is as long as they are many
+-- landed_fits     == a list of 4,096 or more has room for them
+-- landed_long     == cut after them, it is as long as they are many
 -- landed_take     == its first entries are the landings
 -- Assumes nothing.
 use mathlib.Core.Path.{◌≡◌, refl, sym, ap, ◌∙◌, subst}

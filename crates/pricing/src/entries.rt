@@ -19,7 +19,7 @@ pub struct Tariff<'a> {
     pub values: &'a [f64],
 }
 
-impl<'a> Tariff<'a> {
+impl Tariff<'_> {
     // Whether the lists are those of so many areas, and all that they say is allowed.
     #[tactic(auto, unfolding(tariff::specs::Tariff::tariff_fits))]
     pub fn fits(&self, areas: usize) -> bool
