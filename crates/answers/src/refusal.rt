@@ -2,7 +2,8 @@
 ghost use Rattle.std.specs.Prelude.{◌≡◌};
 ghost use Rattle.answers.specs.Means.{number};
 
-// The names are those of include/pmap.h. Only a crossing carries numbers: the pair of borders that alternates, the smaller first.
+// NoCall is a row of neither. The names are those of include/pmap.h, which has none for Text. Only a crossing carries numbers: the
+// pair of borders that alternates, the smaller first.
 #[derive(Clone, Copy, Debug, PartialEq, Eq)]
 pub enum Refusal {
     Lists,

@@ -1,5 +1,6 @@
 -- A drawing lent as slices.
 --
+-- drawn d          == the drawing that is lent as d
 -- next ts h        == entry h of the turning list
 -- Ranged ts        == every entry is below the list's length
 -- Binary ms        == every mark is 0 or 1
@@ -7,7 +8,12 @@
 -- Turns ts         == the turning list is a permutation of its ends
 -- Assumes nothing.
 use Rattle.std.specs.Prelude.{◌≢◌, List, ℕ, ◌<◌, ◌≤◌, length, get_or}
+use Rattle.drawing.specs.Drawing.{Drawing, lent}
 use Rattle.orbits.specs.Cycles.{Permutes}
+use Rattle.checking.specs.declared.lists.Lent.{Lent}
+
+abbrev pub drawn : Lent → Drawing
+drawn d = lent d.turning.now d.marks.now d.start
 
 abbrev pub next : List ℕ → ℕ → ℕ
 next ts h = get_or ts h 0

@@ -1,11 +1,32 @@
-// What one pass over each list tells: lengths, ranges, marks.
+// A drawing as it is lent, and what one pass over each list tells: lengths, ranges, marks.
 ghost use Rattle.std.specs.Prelude.{◌≡◌, List, ℕ, ◌≤◌, ◌<◌, max, length};
 ghost use Rattle.count.specs.Below.{Decides};
 ghost use Rattle.drawing.specs.Checks.{LengthsFit, lengths_fit, in_range, mark_count};
 ghost use Rattle.drawing.specs.Drawing.{lent};
-ghost use Rattle.checking.specs.Lent.{Ranged, Binary};
+ghost use Rattle.checking.specs.Lent.{drawn, Ranged, Binary};
 
 use format::MOST_ENDS;
+
+// A drawing, as it is lent.
+#[derive(Clone, Copy)]
+pub struct Lent<'a> {
+    pub turning: &'a [u16],
+    pub marks: &'a [u8],
+    pub start: usize,
+}
+
+impl Lent<'_> {
+    // 3: entries and start are below 2m, the start 0 for m = 0, and marks are 0 or 1.
+    pub fn in_range(&self) -> bool
+        requires { LengthsFit (drawn self.now) }
+        ensures { result ≡ in_range (drawn self.now) }
+    {
+        if self.turning.len().max(1) <= self.start {
+            return false;
+        }
+        entries_fit(self.turning) && marks_fit(self.marks)
+    }
+}
 
 // 1: the turning list is twice as long as the marks, and at most 4,096 long.
 pub fn lengths_fit(turning: &[u16], marks: &[u8]) -> bool
@@ -16,17 +37,6 @@ pub fn lengths_fit(turning: &[u16], marks: &[u8]) -> bool
         return false;
     }
     ends == 2 * marks.len()
-}
-
-// 3: entries and start are below 2m, the start 0 for m = 0, and marks are 0 or 1.
-pub fn in_range(turning: &[u16], marks: &[u8], start: usize) -> bool
-    requires { LengthsFit (lent turning.now marks.now start) }
-    ensures { result ≡ in_range (lent turning.now marks.now start) }
-{
-    if turning.len().max(1) <= start {
-        return false;
-    }
-    entries_fit(turning) && marks_fit(marks)
 }
 
 // 3, of the entries alone: each is below the list's length.

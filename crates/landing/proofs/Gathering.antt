@@ -6,6 +6,7 @@
 -- gathered_end    == after the last
 -- Walking         == the same from side to side, along the walk; walking_start, walking_more, walking_end
 -- landed_count, landed_most, landed_at, landed_range == how many a filled list has, and what: numbers of areas
+-- landed_fits, landed_long == it has room for them, so that cut where they end it is as long as they are many
 -- landed_take     == its first entries are the landings
 -- Assumes nothing.
 use mathlib.Core.Path.{◌≡◌, refl, sym, ap, ◌∙◌, subst}
@@ -22,6 +23,7 @@ use Rattle.count.specs.Below.{count, nth, gather, find}
 use Rattle.count.proofs.Logic.{same_or_not}
 use Rattle.count.proofs.Below.{count_zero, count_yes, count_no, count_le, count_none, nth_of_count, nth_below, find_has, find_not}
 use Rattle.count.proofs.Lists.{gather_length, gather_get_d}
+use Rattle.answers.specs.declared.numbers.Area.{Area}
 use Rattle.answers.specs.Answer.{Kind}
 use Rattle.words.specs.Brackets.{number, step, first, size}
 use Rattle.words.specs.declared.family.Family.TheVariants.{Square as square}
@@ -35,14 +37,12 @@ use Rattle.format.specs.Open.{open_refusal}
 use Rattle.format.specs.Calls.{cells_in, landings_in}
 use Rattle.format.proofs.Openings.{number_cells, areas_most}
 use Rattle.format.proofs.Landings.{landings_gather}
-use Rattle.walking.specs.Positions.{Position}
+use Rattle.opening.specs.declared.cells.Cell.{Cell}
+use Rattle.walking.specs.Positions.{Position, Numbered}
 use Rattle.walking.proofs.Decoded.{nested, places_most}
 use Rattle.surveying.specs.Surveyed.{Mates, Numbers}
 use Rattle.surveying.proofs.Laws.{listed_across}
 use Rattle.landing.specs.Landed.{Landed}
-
-pub at_least : (n m : ℕ) → n ≡ m → n ≤ m
-at_least n m e = omega arith
 
 abbrev pub area_of : List ℕ → ℕ → ℕ
 area_of s p = number (seen square (word_in s)) p
@@ -305,6 +305,13 @@ module _ (s : List ℕ) (k : ℕ) where
         let h : p < places = nth_below on i places (omega (arith, landed_count)) in
         let r = number_cells s o Kind.area (mate_in (word_in s) p) (mate_in_below (word_in s) (λ X. nested s X o) p h) in
         (omega (arith, landed_at i b, r.0), omega (arith, landed_at i b, r.1))
+
+module _ (s l : List ℕ) (a : Area) (c : ℕ) (L : Landed s a.0 c l) (N : Numbered s (Cell.Area a)) (h : 4096 ≤ length l) where
+  pub landed_fits : c ≤ length l
+  landed_fits = omega (arith, landed_most s a.0 c l N.opens L)
+
+  pub landed_long : c ≡ length (take c l)
+  landed_long = sym (length-take-le c l landed_fits)
 
 pub landed_take : (s : List ℕ) (k c : ℕ) (l : List ℕ) → Landed s k c l → c ≤ length l → take c l ≡ landings_in (word_in s) k
 landed_take s k c l L h =

@@ -1,13 +1,12 @@
 // Filling a list with the areas across the sides of an area.
 ghost use Rattle.std.specs.Prelude.{◌≡◌, ◌≤◌, length, IfSome};
-ghost use Rattle.format.specs.Open.{open_refusal};
 ghost use Rattle.opening.specs.declared.cells.Cell.{Cell};
 ghost use Rattle.walking.specs.Positions.{Numbered};
 ghost use Rattle.landing.specs.Landed.{Landed};
 
 use answers::Area;
 use layout::bits_a;
-use opening::Cell;
+use opening::{Cell, OpenMap};
 use surveying::{Lists, Survey};
 use walking::{first_at, number_at, own_mate_at, step_past};
 use words::Family;
@@ -29,7 +28,7 @@ pub fn land(map: &[u8], area: Area, list: &mut [u16]) -> usize
 {
     match few_across(map, area, list) {
         Some(few) => few,
-        None => all_across(map, area, list),
+        None => all_across(OpenMap { bytes: map }, area, list),
     }
 }
 
@@ -61,9 +60,9 @@ fn few_across(map: &[u8], area: Area, list: &mut [u16]) -> Option<usize>
 }
 
 // The areas across the sides of any area, gathered from all places.
-fn all_across(map: &[u8], area: Area, list: &mut [u16]) -> usize
-    requires { (open_refusal map.now ≡ 0) × (4096 ≤ length list.old) }
-    ensures { Landed map.now area.0 result list.new }
+fn all_across(map: OpenMap<'_>, area: Area, list: &mut [u16]) -> usize
+    requires { 4096 ≤ length list.old }
+    ensures { Landed map.entry.bytes.now area.0 result list.new }
 {
     let mut lists = Lists::new();
     gather(&lists.survey(map), area.0, list)

@@ -5,7 +5,6 @@
 ghost use Rattle.std.specs.Prelude.{◌≡◌, [], ◌∷◌, ◌+◌, ◌*◌, ◌≤◌, length};
 ghost use Rattle.drawing.specs.Drawing.{most_ends};
 ghost use Rattle.format.specs.Bytes.{size_in, bits_a, word_in};
-ghost use Rattle.format.specs.Open.{open_refusal};
 ghost use Rattle.text.specs.Running.{letter_from};
 ghost use Rattle.printing.specs.Writing.{Puts};
 ghost use Rattle.text.specs.Listing.{kind, place_lines};
@@ -16,21 +15,22 @@ use crate::line::{Line, put_line};
 use answers::Place;
 use bits::bit;
 use layout::{bits_a, part_a, part_b};
+use opening::OpenMap;
 use printing::Page;
 use surveying::{Lists, Survey};
 use words::Family;
 
 // Puts the lines of all places.
-pub fn put_lines(map: &[u8], page: &mut Page)
-    requires { (open_refusal map.now ≡ 0) × (page.old.at + 22 * most_ends ≤ length page.old.out.now) }
-    ensures { Puts page.old (place_lines (word_in map.now) 0 (bits_a (size_in map.now))) page.new }
+pub fn put_lines(map: OpenMap<'_>, page: &mut Page)
+    requires { page.old.at + 22 * most_ends ≤ length page.old.out.now }
+    ensures { Puts page.old (place_lines (word_in map.entry.bytes.now) 0 (bits_a (size_in map.entry.bytes.now))) page.new }
 {
     let mut lists = Lists::new();
     put_surveyed(&lists.survey(map), page);
 }
 
 // The same, looked up in the lists of a map. `ones` is the running count: how many of the places before this one are marked.
-#[tactic(auto, using(text::proofs::Running::counts_le, text::proofs::Running::kind_read, crate::proofs::Listed::lined_start, crate::proofs::Listed::lined_position, crate::proofs::Listed::lined_room, crate::proofs::Listed::lined_fits, crate::proofs::Listed::lined_step, crate::proofs::Listed::lined_end))]
+#[tactic(auto, using(text::proofs::Running::counts_le, text::proofs::Running::kind_read, crate::proofs::Listed::lined_position, crate::proofs::Listed::lined_room, crate::proofs::Listed::lined_fits, crate::proofs::Listed::lined_end))]
 fn put_surveyed(survey: &Survey, page: &mut Page)
     requires { page.old.at + 22 * most_ends ≤ length page.old.out.now }
     ensures { Puts page.old (place_lines (word_in survey.now.map.now) 0 (bits_a (size_in survey.now.map.now))) page.new }

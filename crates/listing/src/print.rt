@@ -1,12 +1,12 @@
 // The whole text: a listing, or the line of a refusal.
 ghost use Rattle.std.specs.Prelude.{◌≡◌, ◌≤◌, length};
 ghost use Rattle.answers.specs.Lent.{laid};
-ghost use Rattle.format.specs.Open.{open_refusal};
 ghost use Rattle.printing.specs.Writing.{Wrote};
 ghost use Rattle.text.specs.Listing.{listing, refused_line, printed};
 
 use crate::lines::put_lines;
 use format::MOST_ENDS;
+use opening::{OpenMap, open_map};
 use printing::Page;
 
 // The room of the longest listing: the heading, and 4,096 lines of at most 22 bytes.
@@ -17,8 +17,8 @@ pub fn list(map: &[u8], out: &mut [u8; ROOM]) -> usize
     ensures value { result ≡ length (printed map.now) }
     ensures out_after { out.new ≡ laid (printed map.now) out.old }
 {
-    match opening::check(map) {
-        Ok(()) => put_listing(map, out),
+    match open_map(map) {
+        Ok(open) => put_listing(open, out),
         Err(e) => refused(u8::from(e), out),
     }
 }
@@ -33,9 +33,9 @@ pub fn refused(k: u8, out: &mut [u8; ROOM]) -> usize
 }
 
 // The heading, then the lines of all places.
-fn put_listing(map: &[u8], out: &mut [u8]) -> usize
-    requires { (open_refusal map.now ≡ 0) × (90138 ≤ length out.old) }
-    ensures { Wrote out.old 0 (listing map.now) result out.new }
+fn put_listing(map: OpenMap<'_>, out: &mut [u8]) -> usize
+    requires { 90138 ≤ length out.old }
+    ensures { Wrote out.old 0 (listing map.entry.bytes.now) result out.new }
 {
     let mut page = Page::new(out);
     page.text(b"place kind mate node area\n");

@@ -10,7 +10,7 @@
 // Conventions. Places, points and areas each count from 1, and each kind of number has a type of its
 // own. A place of 0 says that there is none: no joining border, an empty map. A turn says with its
 // place whether it has gone round the point. No function asks anything of its caller: on any bytes and
-// any number it answers, or it declines with the number of the first check that fails.
+// any number it answers, or it declines with the refusal of the first check that fails.
 //
 // The source is document 01, "Moves", for the answers, with document 02, 3/14, for the neighbours and
 // 8/14 for the turns, and 01's table, rows 8 to 15, with document 02, 6/14, for the checks. The

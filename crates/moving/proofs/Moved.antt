@@ -1,4 +1,4 @@
--- What a call about a place answers: the number of the check that declines, or what the word gives.
+-- What a call about a place answers: the refusal of the check that declines, or what the word gives.
 --
 -- reply_declines, reply_answers == any of the six calls
 -- move_declines, move_answers == its number alone

@@ -5,7 +5,7 @@
 //
 // Conventions. Places, points and areas each count from 1, and each kind of number has a type of its own. A turn says with its
 // place whether it has gone round the point. No function asks anything of its caller: on any bytes and any number it answers, or it
-// declines with the number of the first check that fails.
+// declines with the refusal of the first check that fails.
 //
 // The source is document 01, "Moves", with document 02, 8/14, for the answers, and 01's table, rows 8 to 13, with document 02, 6/14,
 // for the checks. The definitions that the contracts cite are those of the crate `format`; the checks are those of `opening`.

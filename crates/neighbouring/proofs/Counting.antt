@@ -4,7 +4,6 @@
 -- counting_start, counting_more, counting_end == before the first entry, one more, after the last
 -- others_fit      == the count fits
 -- landed_others   == the others among the areas across the sides of an area are its neighbours
--- landed_fits     == the areas across are in the list
 -- countable_all, counted_all == so they are counted
 -- Assumes nothing.
 use mathlib.Core.Path.{◌≡◌, refl, sym, ap, ◌∙◌}
@@ -16,7 +15,7 @@ use native.Mathlib.Numerals.{add-one}
 use native.Mathlib.Omega.{arith}
 use lib.Dec.{eqb}
 use lib.ListN.{length, get_or, set, take, length-set, replicate, length-replicate, get_or-replicate}
-use lib.Seq.{get_or-set_same, get_or-set_other, length-take-le, get_or-take}
+use lib.Seq.{get_or-set_same, get_or-set_other, get_or-take}
 use Rattle.std.specs.Int.{from_bool}
 use borrow.Author.Tests.{eq-eqb, ne_eqb, eqb-true}
 use Rattle.count.specs.Below.{count, nth, any}
@@ -35,7 +34,7 @@ use Rattle.format.proofs.Openings.{areas_most}
 use Rattle.opening.specs.declared.cells.Cell.{Cell}
 use Rattle.walking.specs.Positions.{Numbered}
 use Rattle.landing.specs.Landed.{Landed}
-use Rattle.landing.proofs.Gathering.{landed_count, landed_most, landed_at, landed_range}
+use Rattle.landing.proofs.Gathering.{landed_count, landed_at, landed_range, landed_long}
 use Rattle.neighbouring.specs.Counted.{neighbours_at, others_in, Countable}
 
 neither : (x y : Bool) → x || y ≡ false → (x ≡ false) × (y ≡ false)
@@ -180,9 +179,6 @@ module _ (s l : List ℕ) (a : Area) (c : ℕ) (L : Landed s a.0 c l) (N : Numbe
   abbrev k : ℕ
   k = a.0
 
-  pub landed_fits : 4096 ≤ length l → c ≤ length l
-  landed_fits h = omega (arith, landed_most s k c l N.opens L)
-
   countable : length l ≡ c → Countable l (length l) a.0
   countable h =
       let most = areas_most s N.opens in
@@ -239,7 +235,7 @@ module _ (s l : List ℕ) (a : Area) (c : ℕ) (L : Landed s a.0 c l) (N : Numbe
   cut = record { count = L.count; each = λ i b. get_or-take c l i 0 b ∙ L.each i b }
 
   long : length (take c l) ≡ c
-  long = length-take-le c l (landed_fits s l a c L N h)
+  long = sym (landed_long s l a c L N h)
 
   pub countable_all : Countable (take c l) (length (take c l)) a.0
   countable_all = countable s (take c l) a c cut N long

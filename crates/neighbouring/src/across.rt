@@ -11,6 +11,7 @@ use landing::land;
 const FLAGS: usize = 2050;
 
 // How many other areas lie across the sides of an area.
+#[tactic(auto, using(landing::proofs::Gathering::landed_fits, landing::proofs::Gathering::landed_long, crate::proofs::Counting::countable_all, crate::proofs::Counting::counted_all))]
 pub fn neighbours_at(map: &[u8], area: Area) -> usize
     requires { Numbered map.now (Cell.Area area) }
     ensures { result ≡ neighbours_at map.now area.0 }
@@ -22,6 +23,7 @@ pub fn neighbours_at(map: &[u8], area: Area) -> usize
 
 // How many areas other than one are in a list: each is flagged, and counts unless it was met before, by a sum and no jump. The area
 // itself counts as met from the beginning.
+#[tactic(auto, using(crate::proofs::Counting::others_fit, crate::proofs::Counting::counting_end))]
 fn count_in(list: &[u16], area: Area) -> usize
     requires { Countable list.now (length list.now) area.0 }
     ensures { result ≡ others_in list.now (length list.now) area.0 }

@@ -1,13 +1,14 @@
 // Opening: checks 8, 20 and 9 to 12, each in one pass over its strings.
-ghost use Rattle.std.specs.Prelude.{◌≡◌};
+ghost use Rattle.std.specs.Prelude.{◌≡◌, IfOk};
 ghost use Rattle.answers.specs.Answer.{answer};
-ghost use Rattle.answers.specs.Means.{checks_mean, opened_means};
+ghost use Rattle.answers.specs.Means.{means, checks_mean, opened_means};
 ghost use Rattle.words.specs.Brackets.{balanced};
 ghost use Rattle.bits.specs.Strings.{brackets, unused_zero};
 ghost use Rattle.format.specs.Bytes.{size_in, bits_a, bits_b, part_a, part_b};
 ghost use Rattle.format.specs.Open.{size_fits, areas_fit, length_fits, unused_fits, ones_fit, brackets_fit, open_refusal, Opens, open_of};
 ghost use Rattle.opening.specs.Checks.{open_check, header_check};
 
+use crate::opened::OpenMap;
 use answers::{Refusal, Size};
 use format::{HEADER, MOST_BORDERS};
 use layout::{areas, bits_a, bits_b, borders, map_length, part_a, part_b, points, written_areas};
@@ -23,6 +24,15 @@ pub fn open(map: &[u8]) -> Result<Size, Refusal>
         m: borders(map),
         n: points(map),
     })
+}
+
+// The same checks, for whoever goes on with the bytes: those that were given, which open.
+pub fn open_map(map: &[u8]) -> Result<OpenMap<'_>, Refusal>
+    ensures value { means (λ o. tt {0}) result ≡ open_check map.now }
+    ensures same { IfOk result (λ o. o.bytes.now ≡ map.now) }
+{
+    check(map)?;
+    Ok(OpenMap { bytes: map })
 }
 
 // "Checks run in table order", and 20 "between 8 and 9": the refusal of the first that declines.

@@ -2,6 +2,8 @@
 //
 //     open                                            m and n, or the refusal of the check that declines
 //     check                                           8, 20, 9 to 12: nothing, or the refusal of the first that declines
+//     open_map                                        those: the bytes as an OpenMap, or the refusal
+//     OpenMap                                         bytes that open: whoever has them need not ask
 //     check_place                                     those, then 13
 //     check_cell                                      those, then 14 or 15
 //     is_number                                       whether there is such a point, such an area
@@ -17,7 +19,9 @@
 mod cells;
 mod checks;
 mod numbers;
+mod opened;
 
 pub use cells::Cell;
-pub use checks::{check, open};
+pub use checks::{check, open, open_map};
 pub use numbers::{check_cell, check_place, is_number};
+pub use opened::OpenMap;

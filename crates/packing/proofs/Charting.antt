@@ -23,7 +23,7 @@ use Rattle.orbits.specs.Cycles.{Permutes}
 use Rattle.orbits.proofs.Conjugate.{count_renamed}
 use Rattle.words.specs.declared.family.Family.TheVariants.{Round as round, Square as square}
 use Rattle.words.specs.Word.{same_family, Letter}
-use Rattle.drawing.specs.Drawing.{Drawing, borders, ends, border, is_marked, cells, end_at, is_second, lent}
+use Rattle.drawing.specs.Drawing.{Drawing, borders, ends, border, is_marked, cells, end_at, is_second}
 use Rattle.drawing.specs.Checks.{PassesSix, tour_of, mark_count}
 use Rattle.drawing.proofs.Crossing.{Alike}
 use Rattle.drawing.proofs.Ends.{count_borders}
@@ -62,16 +62,13 @@ pub record Chart (D : Drawing) (w : List ℕ) : Type 0 where
   pub at : (p : ℕ) → p < ends D → tour_in w p ≡ end_at D p
   pub second : (p : ℕ) → p < ends D → get_or w (ends D + p) 0 ≡ pick (is_second D p) 1 0
 
-module _ (ts ms : List ℕ) (s : ℕ) (six : PassesSix (lent ts ms s)) where
-  abbrev D : Drawing
-  D = lent ts ms s
-
-  half : length ts ≡ 2 * length ms
+module _ (D : Drawing) (six : PassesSix D) where
+  half : length D.turning ≡ 2 * length D.marks
   half = six.lengths.half
 
-  module _ (w0 : List ℕ) (B : Blank (3 * length ts) w0) where
-    module _ (w1 : List ℕ) (T : Tours (lent ts ms s) w1) (O : Outside 0 (length ts) w0 w1) where
-      pub chart_clean : Clean (2 * length ms) w1
+  module _ (w0 : List ℕ) (B : Blank (3 * length D.turning) w0) where
+    module _ (w1 : List ℕ) (T : Tours D w1) (O : Outside 0 (length D.turning) w0 w1) where
+      pub chart_clean : Clean (2 * length D.marks) w1
       unfolding ends borders
       chart_clean =
           let M = passes_meets D six in
@@ -82,11 +79,11 @@ module _ (ts ms : List ℕ) (s : ℕ) (six : PassesSix (lent ts ms s)) where
                   small = omega (arith, six.lengths.most, half);
                   below = λ p l. rw (T.at p l) (M.end_below p l);
                 };
-            zero = λ e l. O.after (2 * (2 * length ms) + e) (omega (arith, half)) ∙ B.zero (2 * (2 * length ms) + e) (omega (arith, half));
+            zero = λ e l. O.after (2 * (2 * length D.marks) + e) (omega (arith, half)) ∙ B.zero (2 * (2 * length D.marks) + e) (omega (arith, half));
           }
 
-      module _ (w2 : List ℕ) (F : Noted (2 * length ms) w1 w2) where
-        pub chart_made : Chart (lent ts ms s) w2
+      module _ (w2 : List ℕ) (F : Noted (2 * length D.marks) w1 w2) where
+        pub chart_made : Chart D w2
         unfolding ends borders
         chart_made =
             record {
@@ -97,7 +94,7 @@ module _ (ts ms : List ℕ) (s : ℕ) (six : PassesSix (lent ts ms s)) where
                   ∙ ap (λ t. pick t 1 0) (met_same (tour_in w1) (end_at D) p (λ q k. T.at q (omega arith)) ∙ second_met D p);
             }
 
-        pub chart_kept_all : (w3 : List ℕ) → Zeroed (2 * (2 * length ms)) (3 * (2 * length ms)) w2 w3 → Kept (6 * length ms) w0 w3
+        pub chart_kept_all : (w3 : List ℕ) → Zeroed (2 * (2 * length D.marks)) (3 * (2 * length D.marks)) w2 w3 → Kept (6 * length D.marks) w0 w3
         chart_kept_all w3 Q =
             record {
               same_length = Q.outside.same_length ∙ F.outside.same_length ∙ O.same_length;
@@ -105,21 +102,21 @@ module _ (ts ms : List ℕ) (s : ℕ) (six : PassesSix (lent ts ms s)) where
                   Q.outside.after i (omega arith) ∙ F.outside.after i (omega arith) ∙ O.after i (omega (arith, half));
             }
 
-  module _ (w : List ℕ) (C : Chart (lent ts ms s) w) where
-    at_end : (p : ℕ) → p < 2 * length ms → tour_in w p ≡ end_at D p
+  module _ (w : List ℕ) (C : Chart D w) where
+    at_end : (p : ℕ) → p < 2 * length D.marks → tour_in w p ≡ end_at D p
     unfolding ends borders
     at_end p l = C.at p l
 
-    pub chart_kept : (w3 : List ℕ) → Zeroed (2 * (2 * length ms)) (3 * (2 * length ms)) w w3 → Chart (lent ts ms s) w3
+    pub chart_kept : (w3 : List ℕ) → Zeroed (2 * (2 * length D.marks)) (3 * (2 * length D.marks)) w w3 → Chart D w3
     unfolding ends borders
     chart_kept w3 Q =
         record {
           room = omega (arith, C.room, Q.outside.same_length);
           at = λ p l. Q.outside.before p (omega arith) ∙ C.at p l;
-          second = λ p l. Q.outside.before (2 * length ms + p) (omega arith) ∙ C.second p l;
+          second = λ p l. Q.outside.before (2 * length D.marks + p) (omega arith) ∙ C.second p l;
         }
 
-    once : Permutes (2 * length ms) (tour_in w)
+    once : Permutes (2 * length D.marks) (tour_in w)
     unfolding ends borders
     once =
         let M : Permutes (ends D) (end_at D) = tour_once D (passes_meets D six) in
@@ -128,7 +125,7 @@ module _ (ts ms : List ℕ) (s : ℕ) (six : PassesSix (lent ts ms s)) where
           injective = λ p q l k e. M.injective p q l k (sym (C.at p l) ∙ e ∙ C.at q k);
         }
 
-    pub chart_charted : Charted (2 * length ms) w
+    pub chart_charted : Charted (2 * length D.marks) w
     unfolding ends borders
     chart_charted =
         record {
@@ -140,41 +137,41 @@ module _ (ts ms : List ℕ) (s : ℕ) (six : PassesSix (lent ts ms s)) where
               ∙ ap (λ t. pick t 1 0) (sym (met_same (tour_in w) (end_at D) p (λ q k. C.at q (omega arith)) ∙ second_met D p));
         }
 
-    pub chart_legible : Legible ms w
+    pub chart_legible : Legible D.marks w
     unfolding ends borders
     chart_legible =
         record { room = omega (arith, C.room); small = omega (arith, six.lengths.most, half); below = once.below }
 
-    marked_same : (p : ℕ) → p < 2 * length ms → eqb (get_or ms (border_in w p) 0) 1 ≡ is_marked D (border (end_at D p))
+    marked_same : (p : ℕ) → p < 2 * length D.marks → eqb (get_or D.marks (border_in w p) 0) 1 ≡ is_marked D (border (end_at D p))
     unfolding is_marked
-    marked_same p l = ap (λ h. eqb (get_or ms (border h) 0) 1) (at_end p l)
+    marked_same p l = ap (λ h. eqb (get_or D.marks (border h) 0) 1) (at_end p l)
 
-    letter_same : (p : ℕ) → p < 2 * length ms → (word_at ms w).letter p ≡ (word_of D).letter p
+    letter_same : (p : ℕ) → p < 2 * length D.marks → (word_at D.marks w).letter p ≡ (word_of D).letter p
     unfolding word_at word_of ends borders
     letter_same p l =
         let f : Bool → Bool → Letter = λ m t. record { family = pick m round square; closing = t } in
-        ap (λ m. f m (eqb (get_or w (2 * length ms + p) 0) 1)) (marked_same p l)
+        ap (λ m. f m (eqb (get_or w (2 * length D.marks + p) 0) 1)) (marked_same p l)
         ∙ ap (f (is_marked D (border (end_at D p)))) (ap (λ x. eqb x 1) (C.second p l) ∙ test_back (is_second D p))
 
-    pub chart_bytes_lem : (n : ℕ) → n ≡ cells (lent ts ms s) Kind.point → chart_bytes n ms w ≡ packed_bytes (lent ts ms s)
+    pub chart_bytes_lem : (n : ℕ) → n ≡ cells D Kind.point → chart_bytes n D.marks w ≡ packed_bytes D
     unfolding packed_bytes word_at word_of ends borders
     chart_bytes_lem n e =
-        map_bytes_same (record { m = length ms; n = n }) (word_at ms w) (word_of D) refl letter_same
-        ∙ ap (λ x. map_bytes (record { m = length ms; n = x }) (word_of D)) e
+        map_bytes_same (record { m = length D.marks; n = n }) (word_at D.marks w) (word_of D) refl letter_same
+        ∙ ap (λ x. map_bytes (record { m = length D.marks; n = x }) (word_of D)) e
 
-    pub chart_sized : (n : ℕ) → n ≡ cells (lent ts ms s) Kind.point → Sized n ms w
+    pub chart_sized : (n : ℕ) → n ≡ cells D Kind.point → Sized n D.marks w
     unfolding word_at ends borders mark_count
     chart_sized n e =
         let least = marks_at_least D six.range six.entries six.joins in
         let few = six.few.fewer in
-        let most : mark_count D ≤ length ms = count_le (is_marked D) (borders D) in
-        let rounds : count (λ p. same_family round ((word_at ms w).letter p).family) (2 * length ms) ≡ 2 * mark_count D
-        = count_same (λ p. same_family round ((word_at ms w).letter p).family) (λ p. is_marked D (border (end_at D p))) (2 * length ms)
-        (λ p l. round_is (eqb (get_or ms (border_in w p) 0) 1) ∙ marked_same p l)
+        let most : mark_count D ≤ length D.marks = count_le (is_marked D) (borders D) in
+        let rounds : count (λ p. same_family round ((word_at D.marks w).letter p).family) (2 * length D.marks) ≡ 2 * mark_count D
+        = count_same (λ p. same_family round ((word_at D.marks w).letter p).family) (λ p. is_marked D (border (end_at D p))) (2 * length D.marks)
+        (λ p l. round_is (eqb (get_or D.marks (border_in w p) 0) 1) ∙ marked_same p l)
         ∙ count_renamed (tour_once D (passes_meets D six)) (λ h. is_marked D (border h))
         ∙ count_borders (is_marked D) (borders D) in
         record { least = omega arith; most = omega arith; rounds = omega arith }
 
-    pub chart_alike : Alike (chart_tour ms w) (tour_of (lent ts ms s))
+    pub chart_alike : Alike (chart_tour D.marks w) (tour_of D)
     unfolding tour_of ends borders is_marked
     chart_alike = record { size = refl; at = λ p l. ap border (at_end p l); unmarked = λ e. refl }

@@ -51,52 +51,49 @@ pub kept_on : (k : ℕ) (old w v : List ℕ) → w ≡ old → Kept k w v → Ke
 kept_on k old w v e K = rw e at K
 
 -- ---- checked
-module _ (ts ms : List ℕ) (s : ℕ) (F : LengthsFit (lent ts ms s)) (I : InRange (lent ts ms s)) where
-  abbrev D : Drawing
-  D = lent ts ms s
+module _ (D : Drawing) (F : LengthsFit D) (I : InRange D) where
+  pub checked_ranged : Ranged D.turning
+  checked_ranged = ranged_from D.turning D.marks D.start F.half I.entries
 
-  pub checked_ranged : Ranged ts
-  checked_ranged = ranged_from ts ms s F.half I.entries
-
-  module _ (r : Bool) (p : Decides r (Differ ts)) where
-    pub checked_4 : not r ≡ true → (old : List ℕ) → PacksLater (lent ts ms s) (refused 4) old old
-    checked_4 h old = declines D 0 4 old tt (fails r (distinct D) (distinct_is ts ms s F.half r p) h) refl refl
+  module _ (r : Bool) (p : Decides r (Differ D.turning)) where
+    pub checked_4 : not r ≡ true → (old : List ℕ) → PacksLater D (refused 4) old old
+    checked_4 h old = declines D 0 4 old tt (fails r (distinct D) (distinct_is D.turning D.marks D.start F.half r p) h) refl refl
 
     module _ (h : not r ≡ false) where
       differ : distinct D ≡ true
-      differ = passes r (distinct D) (distinct_is ts ms s F.half r p) h
+      differ = passes r (distinct D) (distinct_is D.turning D.marks D.start F.half r p) h
 
-      pub checked_turns : Turns ts
-      checked_turns = turns_from ts ms s F.half I.entries ((distinct_decides D).sound differ)
+      pub checked_turns : Turns D.turning
+      checked_turns = turns_from D.turning D.marks D.start F.half I.entries ((distinct_decides D).sound differ)
 
-      module _ (x : Option ℕ) (N : (s : ℕ) → x ≡ pick (joined (lent ts ms s)) (Some (cells (lent ts ms s) Kind.point)) None) where
+      module _ (x : Option ℕ) (N : (s : ℕ) → x ≡ pick (joined (lent D.turning D.marks s)) (Some (cells (lent D.turning D.marks s) Kind.point)) None) where
         joins_not : x ≡ None → joined D ≡ false
         joins_not z =
             elim (true_or_false (joined D)) [
-              | inl t ↦ absurd (true_not_false (is_some x) (ap is_some (N s ∙ pick_yes (joined D) (Some (cells D Kind.point)) None t)) (ap is_some z))
+              | inl t ↦ absurd (true_not_false (is_some x) (ap is_some (N D.start ∙ pick_yes (joined D) (Some (cells D Kind.point)) None t)) (ap is_some z))
               | inr f ↦ f
             ]
 
-        pub checked_5 : x ≡ None → (old : List ℕ) → PacksLater (lent ts ms s) (refused 5) old old
+        pub checked_5 : x ≡ None → (old : List ℕ) → PacksLater D (refused 5) old old
         checked_5 z old = declines D 1 5 old (differ, tt) (joins_not z) refl refl
 
-        module _ (n : ℕ) (k : x ≡ Some n) (m : ℕ) (M : (ts : List ℕ) (s : ℕ) → m ≡ mark_count (lent ts ms s)) where
+        module _ (n : ℕ) (k : x ≡ Some n) (m : ℕ) (M : (ts : List ℕ) (s : ℕ) → m ≡ mark_count (lent ts D.marks s)) where
           joins : joined D ≡ true
           joins =
               elim (true_or_false (joined D)) [
                 | inl t ↦ t
-                | inr f ↦ absurd (true_not_false (is_some x) (ap is_some k) (ap is_some (N s ∙ pick_no (joined D) (Some (cells D Kind.point)) None f)))
+                | inr f ↦ absurd (true_not_false (is_some x) (ap is_some k) (ap is_some (N D.start ∙ pick_no (joined D) (Some (cells D Kind.point)) None f)))
               ]
 
-          pub checked_points : n ≡ cells (lent ts ms s) Kind.point
-          checked_points = ap (λ o. unwrap_or o 0) (sym k ∙ N s ∙ pick_yes (joined D) (Some (cells D Kind.point)) None joins)
+          pub checked_points : n ≡ cells D Kind.point
+          checked_points = ap (λ o. unwrap_or o 0) (sym k ∙ N D.start ∙ pick_yes (joined D) (Some (cells D Kind.point)) None joins)
 
-          pub checked_6 : n ≤ m → (old : List ℕ) → PacksLater (lent ts ms s) (refused 6) old old
+          pub checked_6 : n ≤ m → (old : List ℕ) → PacksLater D (refused 6) old old
           unfolding few_marks
           checked_6 l old =
-              declines D 2 6 old (differ, (joins, tt)) (le-ltb (mark_count D) (cells D Kind.point) (omega (arith, checked_points, M ts s))) refl refl
+              declines D 2 6 old (differ, (joins, tt)) (le-ltb (mark_count D) (cells D Kind.point) (omega (arith, checked_points, M D.turning D.start))) refl refl
 
-          pub checked_six : m < n → PassesSix (lent ts ms s)
+          pub checked_six : m < n → PassesSix D
           checked_six l =
               let E = (distinct_decides D).sound differ in
               record {
@@ -104,58 +101,55 @@ module _ (ts ms : List ℕ) (s : ℕ) (F : LengthsFit (lent ts ms s)) (I : InRan
                 range = I;
                 entries = E;
                 joins = (joined_decides D (turn_permutes D I E)).sound joins;
-                few = record { fewer = omega (arith, checked_points, M ts s) };
+                few = record { fewer = omega (arith, checked_points, M D.turning D.start) };
               }
 
 -- ---- finish
-module _ (ts ms : List ℕ) (s : ℕ) (six : PassesSix (lent ts ms s)) where
-  abbrev G : Drawing
-  G = lent ts ms s
+module _ (D : Drawing) (six : PassesSix D) where
+  four : distinct D ≡ true
+  four = (distinct_decides D).complete six.entries
 
-  four : distinct G ≡ true
-  four = (distinct_decides G).complete six.entries
+  five : joined D ≡ true
+  five = (joined_decides D (turn_permutes D six.range six.entries)).complete six.joins
 
-  five : joined G ≡ true
-  five = (joined_decides G (turn_permutes G six.range six.entries)).complete six.joins
+  few : few_marks D ≡ true
+  few = (few_decides D).complete six.few
 
-  few : few_marks G ≡ true
-  few = (few_decides G).complete six.few
-
-  module _ (w : List ℕ) (C : Chart (lent ts ms s) w) where
+  module _ (w : List ℕ) (C : Chart D w) where
     -- the tour in the working list is the drawing's
-    found_is : (x : Option (ℕ × ℕ)) → found_means x ≡ crossing_in (chart_tour ms w) → found_means x ≡ first_crossing (lent ts ms s)
+    found_is : (x : Option (ℕ × ℕ)) → found_means x ≡ crossing_in (chart_tour D.marks w) → found_means x ≡ first_crossing D
     unfolding first_crossing
-    found_is x Y = Y ∙ crossing_in_same (chart_tour ms w) (tour_of G) (chart_alike ts ms s six w C)
+    found_is x Y = Y ∙ crossing_in_same (chart_tour D.marks w) (tour_of D) (chart_alike D six w C)
 
-    pub finish_pair : (x : Option (ℕ × ℕ)) → found_means x ≡ crossing_in (chart_tour ms w) → (a b : ℕ) → x ≡ Some (a, b)
-        → (old : List ℕ) → PacksLater (lent ts ms s) (refused_with 7 (a ∷ b ∷ [])) old old
+    pub finish_pair : (x : Option (ℕ × ℕ)) → found_means x ≡ crossing_in (chart_tour D.marks w) → (a b : ℕ) → x ≡ Some (a, b)
+        → (old : List ℕ) → PacksLater D (refused_with 7 (a ∷ b ∷ [])) old old
     unfolding later_of leaves
     finish_pair x Y a b f old =
-        let is : a ∷ b ∷ [] ≡ first_crossing G = sym (ap found_means f) ∙ found_is x Y in
-        let t : crosses G ≡ true =
-        elim (true_or_false (crosses G)) [
+        let is : a ∷ b ∷ [] ≡ first_crossing D = sym (ap found_means f) ∙ found_is x Y in
+        let t : crosses D ≡ true =
+        elim (true_or_false (crosses D)) [
           | inl t ↦ t
-          | inr z ↦ (let none : ◌≡◌ {A = ℕ} 2 0 = ap length (is ∙ no_crossing G z) in absurd (omega arith))
+          | inr z ↦ (let none : ◌≡◌ {A = ℕ} 2 0 = ap length (is ∙ no_crossing D z) in absurd (omega arith))
         ] in
-        let e : later_of G ≡ refused_with 7 (a ∷ b ∷ [])
-        = sym (refuses_at (later_checks G) (answer (packed_bytes G)) 3 (four, (five, (few, tt))) (ap not t)) ∙ ap (refused_with 7) (sym is) in
+        let e : later_of D ≡ refused_with 7 (a ∷ b ∷ [])
+        = sym (refuses_at (later_checks D) (answer (packed_bytes D)) 3 (four, (five, (few, tt))) (ap not t)) ∙ ap (refused_with 7) (sym is) in
         record { answers = sym (ap (told length) e); output = sym (ap (λ x. leaves laid x old) e) }
 
-    pub finish_none : (x : Option (ℕ × ℕ)) → found_means x ≡ crossing_in (chart_tour ms w) → x ≡ None → (n : ℕ) → n ≡ cells (lent ts ms s) Kind.point
-        → (v : List ℕ) → Chart (lent ts ms s) v → (r : ℕ) (old new : List ℕ)
-        → r ≡ length (chart_bytes n ms v) → new ≡ laid (chart_bytes n ms v) old
-        → PacksLater (lent ts ms s) (answer r) old new
+    pub finish_none : (x : Option (ℕ × ℕ)) → found_means x ≡ crossing_in (chart_tour D.marks w) → x ≡ None → (n : ℕ) → n ≡ cells D Kind.point
+        → (v : List ℕ) → Chart D v → (r : ℕ) (old new : List ℕ)
+        → r ≡ length (chart_bytes n D.marks v) → new ≡ laid (chart_bytes n D.marks v) old
+        → PacksLater D (answer r) old new
     unfolding later_of leaves
     finish_none x Y f n e v K r old new p q =
-        let is : [] ≡ first_crossing G = sym (ap found_means f) ∙ found_is x Y in
-        let t : crosses G ≡ false =
-        elim (true_or_false (crosses G)) [
-          | inl c ↦ (let two : ◌≡◌ {A = ℕ} 0 2 = ap length is ∙ some_crossing G c in absurd (omega arith))
+        let is : [] ≡ first_crossing D = sym (ap found_means f) ∙ found_is x Y in
+        let t : crosses D ≡ false =
+        elim (true_or_false (crosses D)) [
+          | inl c ↦ (let two : ◌≡◌ {A = ℕ} 0 2 = ap length is ∙ some_crossing D c in absurd (omega arith))
           | inr z ↦ z
         ] in
-        let a : later_of G ≡ answer (packed_bytes G)
-        = sym (answers_all (later_checks G) (answer (packed_bytes G)) (four, (five, (few, (ap not t, tt))))) in
-        let b = chart_bytes_lem ts ms s six v K n e in
+        let a : later_of D ≡ answer (packed_bytes D)
+        = sym (answers_all (later_checks D) (answer (packed_bytes D)) (four, (five, (few, (ap not t, tt))))) in
+        let b = chart_bytes_lem D six v K n e in
         record {
           answers = ap answer (p ∙ ap length b) ∙ sym (ap (told length) a);
           output = q ∙ ap (λ x. laid x old) b ∙ sym (ap (λ x. leaves laid x old) a);

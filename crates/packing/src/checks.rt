@@ -7,13 +7,21 @@ ghost use Rattle.drawing.specs.Checks.{LengthsFit, InRange, PassesSix};
 ghost use Rattle.format.specs.Bytes.{longest};
 ghost use Rattle.format.specs.Packs.{Packs};
 ghost use Rattle.lending.specs.Lists.{Blank, Kept};
+ghost use Rattle.checking.specs.Lent.{drawn};
 ghost use Rattle.packing.specs.Later.{PacksLater};
 
 use answers::Refusal;
+use checking::Lent;
 use format::LONGEST;
 
 // Packs a drawing into `out`. Where a check declines, `out` stays as it was.
-pub fn pack(turning: &[u16], marks: &[u8], start: usize, work: &mut [u16], out: &mut [u8]) -> Result<usize, Refusal>
+pub fn pack(
+    turning: &[u16],
+    marks: &[u8],
+    start: usize,
+    work: &mut [u16],
+    out: &mut [u8],
+) -> Result<usize, Refusal>
     ensures { Packs (lent turning.now marks.now start)
         work.old work.new out.old out.new (packed_means result) }
 {
@@ -27,58 +35,54 @@ pub fn pack(turning: &[u16], marks: &[u8], start: usize, work: &mut [u16], out: 
     if out.len() < LONGEST {
         return Err(Refusal::Room);
     }
-    if !checking::in_range(turning, marks, start) {
+    let drawing = Lent {
+        turning,
+        marks,
+        start,
+    };
+    if !drawing.in_range() {
         return Err(Refusal::Range);
     }
     lending::clear(work, k);
-    let packed = checked(turning, marks, start, work, out);
+    let packed = checked(&drawing, work, out);
     lending::clear(work, k); // and after every answer from here on
     packed
 }
 
 // Checks 4 to 6, and the rest.
-fn checked(turning: &[u16], marks: &[u8], start: usize, work: &mut [u16], out: &mut [u8]) -> Result<usize, Refusal>
-    requires { LengthsFit (lent turning.now marks.now start)
-        × InRange (lent turning.now marks.now start)
-        × Blank (3 * length turning.now) work.old
+fn checked(drawing: &Lent, work: &mut [u16], out: &mut [u8]) -> Result<usize, Refusal>
+    requires { LengthsFit (drawn drawing.now)
+        × InRange (drawn drawing.now)
+        × Blank (3 * length drawing.now.turning.now) work.old
         × (longest ≤ length out.old) }
-    ensures packs_later { PacksLater (lent turning.now marks.now start) (packed_means result)
-        out.old out.new }
-    ensures kept { Kept (6 * length marks.now) work.old work.new }
+    ensures packs_later { PacksLater (drawn drawing.now) (packed_means result) out.old out.new }
+    ensures kept { Kept (6 * length drawing.now.marks.now) work.old work.new }
 {
-    if !checking::is_distinct(turning, work) {
+    if !checking::is_distinct(drawing.turning, work) {
         return Err(Refusal::Repeated);
     }
-    let Some(n) = reaching::joined_points(turning, marks, work) else {
+    let Some(n) = reaching::joined_points(drawing.turning, drawing.marks, work) else {
         return Err(Refusal::Apart);
     };
-    if n <= checking::count_marks(marks) {
+    if n <= checking::count_marks(drawing.marks) {
         return Err(Refusal::ManyMarks);
     }
-    finish(turning, marks, start, n, work, out)
+    finish(drawing, n, work, out)
 }
 
 // Check 7, and the map of a drawing that passes.
-fn finish(
-    turning: &[u16],
-    marks: &[u8],
-    start: usize,
-    n: usize,
-    work: &mut [u16],
-    out: &mut [u8],
-) -> Result<usize, Refusal>
-    requires { PassesSix (lent turning.now marks.now start)
-        × (n ≡ cells (lent turning.now marks.now start) Kind.point)
-        × Blank (3 * length turning.now) work.old
+fn finish(drawing: &Lent, n: usize, work: &mut [u16], out: &mut [u8]) -> Result<usize, Refusal>
+    requires { PassesSix (drawn drawing.now)
+        × (n ≡ cells (drawn drawing.now) Kind.point)
+        × Blank (3 * length drawing.now.turning.now) work.old
         × (longest ≤ length out.old) }
-    ensures packs_later { PacksLater (lent turning.now marks.now start) (packed_means result)
-        out.old out.new }
-    ensures kept { Kept (6 * length marks.now) work.old work.new }
+    ensures packs_later { PacksLater (drawn drawing.now) (packed_means result) out.old out.new }
+    ensures kept { Kept (6 * length drawing.now.marks.now) work.old work.new }
 {
-    touring::tour(turning, marks, start, work);
-    touring::seconds(work, 2 * marks.len());
-    match crossing::find_crossing(marks, work) {
+    touring::tour(drawing, work);
+    touring::seconds(work, 2 * drawing.marks.len());
+    match crossing::find_crossing(drawing.marks, work) {
         Some((a, b)) => Err(Refusal::Crossing(a, b)),
-        None => Ok(writing::write_map(marks, n, work, out)),
+        None => Ok(writing::write_map(drawing.marks, n, work, out)),
     }
 }

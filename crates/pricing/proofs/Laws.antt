@@ -3,16 +3,16 @@
 -- not_is                     == a test, by what its negation is
 -- at_own, at_held, at_unknown == what the lists say of an area, by its kind byte
 -- entry_allowed              == an entry whose kind byte is 2 at most, by whether the factor is allowed
--- all_below                  == a test of all numbers below a bound, by what std's `all` over the range says of them
+-- all_below                  == a test of all numbers below a bound, as std has it of their list
 -- lists_each                 == lists of the right length, by the test of all their entries
 -- Assumes nothing.
-use Rattle.std.proofs.Common.{◌≡◌, ℕ, suc, pred, ◌+◌, ◌-◌, ◌*◌, ◌<◌, ◌≤◌, Bool, true, false, not, ◌&&◌, List, length, get_or, sym, ap, ◌∙◌, inl, inr, add-one, arith, eqb, ne_eqb, le-leb}
-use Rattle.std.specs.Bool.{MatchBool}
-use Rattle.std.specs.List.{AllWithin, HoldsAt, range_with_len}
+use Rattle.std.proofs.Common.{◌≡◌, ℕ, suc, pred, ◌+◌, ◌-◌, ◌*◌, ◌<◌, ◌≤◌, Bool, true, false, not, ◌&&◌, List, length, get_or, sym, ap, ◌∙◌, add-one, arith, eqb, ne_eqb, le-leb}
+use Rattle.std.specs.List.{list_all, range_with_len}
 use Rattle.std.proofs.lemmas.List.FromFn.{length-range_with_len, get_or-range_with_len}
+use Rattle.std.proofs.lemmas.List.Sums.{AllPass-from_list_all, list_all-from_AllPass}
 use lib.Ieee.{Float, nan}
 use Rattle.count.specs.Below.{all}
-use Rattle.count.proofs.Logic.{true_or_false, true_not_false}
+use Rattle.count.proofs.Logic.{bool_same}
 use Rattle.count.proofs.Below.{all_from, all_has}
 use Rattle.tariff.specs.declared.factor.Factor.{Factor}
 use Rattle.tariff.specs.Tariff.{of_kind, factor_at, allowed, tariff_fits}
@@ -55,19 +55,17 @@ module _ (P : ℕ → Bool) (v : ℕ) where
   abbrev below : List ℕ
   below = range_with_len 0 v
 
-  passed : (b : Bool) (i : ℕ) → i < v → P (get_or below i 0) ≡ b → P i ≡ b
-  passed b i l h = let e : i ≡ get_or below i 0 = omega (arith, get_or-range_with_len 0 v i 0 l) in ap P e ∙ h
+  at : (i d : ℕ) → i < v → P i ≡ P (get_or below i d)
+  at i d l = let e : i ≡ get_or below i d = omega (arith, get_or-range_with_len 0 v i d l) in ap P e
 
-  pub all_below : (r : Bool)
-      → MatchBool r (AllWithin (λ i. P i ≡ true) below 0 (length below)) ((i : ℕ) × (i < length below) × HoldsAt (λ i. P i ≡ false) below i)
-      → r ≡ all P v
-  all_below true h = sym (all_from P v (λ i l. passed true i l (h i 0 (omega arith) (omega (arith, length-range_with_len 0 v)))))
-  all_below false h =
-      let l : h.0 < v = omega (arith, h.1, length-range_with_len 0 v) in
-      elim (true_or_false (all P v)) [
-        | inl t ↦ absurd (true_not_false (P h.0) (all_has P v t h.0 l) (passed false h.0 l (h.2 0)))
-        | inr f ↦ sym f
-      ]
+  pub all_below : list_all P below ≡ all P v
+  all_below =
+      bool_same (list_all P below) (all P v)
+      (λ t. all_from P v (λ i l. at i 0 l ∙ AllPass-from_list_all P below t i 0 (omega (arith, length-range_with_len 0 v))))
+      (λ t.
+      list_all-from_AllPass P below (λ i d l.
+      let b : i < v = omega (arith, length-range_with_len 0 v) in
+      sym (at i d b) ∙ all_has P v t i b))
 
 pub lists_each : (kinds : List ℕ) (values : List Float) (v : ℕ) (r : Bool) → eqb (length kinds) v ≡ true → eqb (length values) (3 * v) ≡ true
     → r ≡ all (entry_fits kinds values) v → r ≡ tariff_fits v kinds values

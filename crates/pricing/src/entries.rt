@@ -12,38 +12,47 @@ const LEAST: f64 = 0.01;
 
 const MOST: f64 = 100.0;
 
-// Whether the lists are those of so many areas, and all that they say is allowed.
-#[tactic(auto, unfolding(tariff::specs::Tariff::tariff_fits))]
-pub fn lists_fit(kinds: &[u8], values: &[f64], areas: usize) -> bool
-    requires { areas < 65538 }
-    ensures { result ≡ tariff_fits areas kinds.now values.now }
-{
-    kinds.len() == areas
-        && values.len() == 3 * areas
-        && (0..areas).all(|i| entry_fits(kinds, values, i))
+// The two lists, which belong together.
+#[derive(Clone, Copy)]
+pub struct Tariff<'a> {
+    pub kinds: &'a [u8],
+    pub values: &'a [f64],
 }
 
-// Whether what the lists say of one area is allowed; areas count from 0 here.
-#[tactic(auto, using(crate::proofs::Laws::entry_allowed), unfolding(crate::specs::Lists::entry_fits))]
-fn entry_fits(kinds: &[u8], values: &[f64], i: usize) -> bool
-    requires { InLists kinds.now values.now (i + 1) × (i < 65538) }
-    ensures { result ≡ entry_fits kinds.now values.now i }
-{
-    kinds[i] <= 2 && is_allowed(factor_in(kinds, values, Area(i + 1)))
-}
+impl<'a> Tariff<'a> {
+    // Whether the lists are those of so many areas, and all that they say is allowed.
+    #[tactic(auto, unfolding(tariff::specs::Tariff::tariff_fits))]
+    pub fn fits(&self, areas: usize) -> bool
+        requires { areas < 65538 }
+        ensures { result ≡ tariff_fits areas self.now.kinds.now self.now.values.now }
+    {
+        self.kinds.len() == areas
+            && self.values.len() == 3 * areas
+            && (0..areas).all(|i| self.entry_fits(i))
+    }
 
-// What the lists say of an area. What its kind does not use is not read.
-#[tactic(auto, using(crate::proofs::Laws::at_own, crate::proofs::Laws::at_held, crate::proofs::Laws::at_unknown))]
-pub fn factor_in(kinds: &[u8], values: &[f64], area: Area) -> Factor
-    requires { InLists kinds.now values.now area.0 }
-    ensures { result ≡ factor_at kinds.now values.now area.0 }
-{
-    let i = area.0 - 1;
-    let at = 3 * i;
-    match kinds[i] {
-        0 => Factor::Own(values[at]),
-        1 => Factor::Held(values[at], values[at + 1], values[at + 2]),
-        _ => Factor::Unknown,
+    // Whether what the lists say of one area is allowed; areas count from 0 here.
+    #[tactic(auto, using(crate::proofs::Laws::entry_allowed), unfolding(crate::specs::Lists::entry_fits))]
+    fn entry_fits(&self, i: usize) -> bool
+        requires { InLists self.now.kinds.now self.now.values.now (i + 1) × (i < 65538) }
+        ensures { result ≡ entry_fits self.now.kinds.now self.now.values.now i }
+    {
+        self.kinds[i] <= 2 && is_allowed(self.factor(Area(i + 1)))
+    }
+
+    // What the lists say of an area. What its kind does not use is not read.
+    #[tactic(auto, using(crate::proofs::Laws::at_own, crate::proofs::Laws::at_held, crate::proofs::Laws::at_unknown))]
+    pub fn factor(&self, area: Area) -> Factor
+        requires { InLists self.now.kinds.now self.now.values.now area.0 }
+        ensures { result ≡ factor_at self.now.kinds.now self.now.values.now area.0 }
+    {
+        let i = area.0 - 1;
+        let at = 3 * i;
+        match self.kinds[i] {
+            0 => Factor::Own(self.values[at]),
+            1 => Factor::Held(self.values[at], self.values[at + 1], self.values[at + 2]),
+            _ => Factor::Unknown,
+        }
     }
 }
 

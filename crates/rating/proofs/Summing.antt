@@ -1,7 +1,7 @@
 -- Adding up the factors of the areas in a list, and what that says of an area's sides.
 --
 -- sum_none, sum_more == the sum before the first entry, and with one entry more
--- landed_fits     == the areas across the sides of an area are in the list
+-- sum_few         == it has room for that one
 -- summable_all, summed_all == they can be added up, and the sum is theirs
 -- Assumes nothing.
 use mathlib.Core.Path.{◌≡◌, refl, sym, ap, ◌∙◌}
@@ -11,7 +11,7 @@ use native.Mathlib.Numerals.{add-one}
 use native.Mathlib.Omega.{arith}
 use lib.Ieee.{Float}
 use lib.ListN.{length, get_or, take}
-use lib.Seq.{take-suc}
+use lib.Seq.{take-suc, length-take-le}
 use Rattle.answers.specs.declared.numbers.Area.{Area}
 use Rattle.answers.specs.Answer.{Kind}
 use Rattle.format.specs.Bytes.{size_in, word_in}
@@ -19,11 +19,11 @@ use Rattle.format.specs.Calls.{cells_in, landings_in}
 use Rattle.opening.specs.declared.cells.Cell.{Cell}
 use Rattle.walking.specs.Positions.{Numbered}
 use Rattle.landing.specs.Landed.{Landed}
-use Rattle.landing.proofs.Gathering.{landed_range, landed_most, landed_take}
+use Rattle.landing.proofs.Gathering.{landed_range, landed_most, landed_fits, landed_take}
 use Rattle.tariff.specs.declared.factor.Factor.{Factor}
 use Rattle.tariff.specs.declared.factor.Running.{Running}
 use Rattle.tariff.specs.Tariff.{factor_at, TariffFits, begun, added, summed, sum_across}
-use Rattle.tariff.proofs.Lists.{added_most}
+use Rattle.tariff.proofs.Lists.{summed_most}
 use Rattle.rating.specs.Summed.{Summable}
 
 summed_last : (t : ℕ → Factor) (js : List ℕ) (j : ℕ) (r : Running) → summed t (js ++ (j ∷ [])) r ≡ added (summed t js r) (t j)
@@ -36,22 +36,22 @@ pub sum_none : (kinds : List ℕ) (values : List Float) → begun ≡ sum_across
 unfolding sum_across summed
 sum_none kinds values = refl
 
-pub sum_more : (l kinds : List ℕ) (values : List Float) (i j : ℕ) (r q : Running) (f : Factor) → i < length l → j ≡ get_or l i 0
-    → f ≡ factor_at kinds values j → q ≡ added r f → (r.count ≤ i) × (r ≡ sum_across kinds values (take i l))
-    → (q.count ≤ i + 1) × (q ≡ sum_across kinds values (take (i + 1) l))
-unfolding sum_across
-sum_more l kinds values i j r q f h hj hf hq e =
-    let t : ℕ → Factor = factor_at kinds values in (
-      omega (arith, ap (λ (x : Running). x.count) hq, added_most r f, e.0),
-      hq ∙ ap (added r) (hf ∙ ap t hj) ∙ ap (λ x. added x (t (get_or l i 0))) e.1 ∙ sym (summed_last t (take i l) (get_or l i 0) begun)
-          ∙ ap (λ js. summed t js begun) (sym (take-suc l i 0 h)) ∙ ap (λ n. summed t (take n l) begun) (sym (add-one i)),
-    )
+module _ (l kinds : List ℕ) (values : List Float) (i : ℕ) (r : Running) (h : i < length l) (e : r ≡ sum_across kinds values (take i l)) where
+  pub sum_few : Summable l (length l) kinds values → r.count < 4096
+  unfolding sum_across
+  sum_few S =
+      omega (arith, ap (λ (x : Running). x.count) e, summed_most (factor_at kinds values) (take i l) begun, length-take-le i l (omega arith), S.few)
+
+  pub sum_more : (j : ℕ) (q : Running) (f : Factor) → j ≡ get_or l i 0 → f ≡ factor_at kinds values j → q ≡ added r f
+      → q ≡ sum_across kinds values (take (i + 1) l)
+  unfolding sum_across
+  sum_more j q f hj hf hq =
+      let t : ℕ → Factor = factor_at kinds values in
+      hq ∙ ap (added r) (hf ∙ ap t hj) ∙ ap (λ x. added x (t (get_or l i 0))) e ∙ sym (summed_last t (take i l) (get_or l i 0) begun)
+      ∙ ap (λ js. summed t js begun) (sym (take-suc l i 0 h)) ∙ ap (λ n. summed t (take n l) begun) (sym (add-one i))
 
 -- ---- the areas across the sides of an area
 module _ (s l : List ℕ) (a : Area) (c : ℕ) (L : Landed s a.0 c l) (N : Numbered s (Cell.Area a)) where
-  pub landed_fits : 4096 ≤ length l → c ≤ length l
-  landed_fits h = omega (arith, landed_most s a.0 c l N.opens L)
-
   module _ (kinds : List ℕ) (values : List Float) (T : TariffFits (cells_in (size_in s) Kind.area) kinds values) where
     abbrev across : List ℕ
     across = landings_in (word_in s) a.0
@@ -68,7 +68,7 @@ module _ (s l : List ℕ) (a : Area) (c : ℕ) (L : Landed s a.0 c l) (N : Numbe
         }
 
     pub summable_all : 4096 ≤ length l → Summable (take c l) (length (take c l)) kinds values
-    summable_all h = rw (landed_take s a.0 c l L (landed_fits h)) summable
+    summable_all h = rw (landed_take s a.0 c l L (landed_fits s l a c L N h)) summable
 
     pub summed_all : 4096 ≤ length l → (r : Running) → r ≡ sum_across kinds values (take c l) → r ≡ sum_across kinds values (landings_in (word_in s) a.0)
-    summed_all h r e = e ∙ ap (sum_across kinds values) (landed_take s a.0 c l L (landed_fits h))
+    summed_all h r e = e ∙ ap (sum_across kinds values) (landed_take s a.0 c l L (landed_fits s l a c L N h))

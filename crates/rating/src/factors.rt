@@ -15,31 +15,35 @@ use crate::sides::sum_across;
 use answers::{Area, Refusal};
 use layout::areas;
 use opening::{Cell, check_cell};
-use pricing::{factor_in, hold, lists_fit, mean_of};
+use pricing::{Tariff, hold, mean_of};
 use tariff::Factor;
 
 // The factor of an area: opening's checks, 15, 18, 19, or the number.
+#[tactic(auto, using(answers::proofs::Passing::passed_up, crate::proofs::Prices::factor_declines, crate::proofs::Prices::factor_lists, crate::proofs::Prices::entry_lent, crate::proofs::Prices::factor_own, crate::proofs::Prices::factor_unknown))]
 pub fn factor(map: &[u8], area: Area, kinds: &[u8], values: &[f64]) -> Result<f64, Refusal>
     ensures { factor_means result ≡ factor_of map.now area.0 kinds.now values.now }
 {
     check_cell(map, Cell::Area(area))?;
-    if !lists_fit(kinds, values, areas(map)) {
+    let tariff = Tariff { kinds, values };
+    if !tariff.fits(areas(map)) {
         return Err(Refusal::Tariff);
     }
-    match factor_in(kinds, values, area) {
+    match tariff.factor(area) {
         Factor::Own(x) => Ok(x),
         Factor::Held(x, low, high) => Ok(hold(x, low, high)),
-        Factor::Unknown => mean_across(map, area, kinds, values),
+        Factor::Unknown => mean_across(map, area, &tariff),
     }
 }
 
 // The mean across the sides of an area whose factor is not known; 19 where no known one is across.
-fn mean_across(map: &[u8], area: Area, kinds: &[u8], values: &[f64]) -> Result<f64, Refusal>
-    requires { Numbered map.now (Cell.Area area) × TariffFits (cells_in (size_in map.now) Kind.area) kinds.now values.now }
+#[tactic(auto, using(crate::proofs::Prices::price_none, crate::proofs::Prices::price_mean))]
+fn mean_across(map: &[u8], area: Area, tariff: &Tariff) -> Result<f64, Refusal>
+    requires { Numbered map.now (Cell.Area area)
+        × TariffFits (cells_in (size_in map.now) Kind.area) tariff.now.kinds.now tariff.now.values.now }
     ensures { factor_means result ≡ priced Factor.Unknown
-        (sum_across kinds.now values.now (landings_in (word_in map.now) area.0)) }
+        (sum_across tariff.now.kinds.now tariff.now.values.now (landings_in (word_in map.now) area.0)) }
 {
-    let running = sum_across(map, area, kinds, values);
+    let running = sum_across(map, area, tariff);
     if running.count == 0 {
         return Err(Refusal::NoFactor);
     }

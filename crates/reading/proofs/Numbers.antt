@@ -19,6 +19,7 @@ use native.Mathlib.Omega.{arith}
 use borrow.Author.Tests.{le-leb, lt-leb, eq-eqb, ne_eqb}
 use lib.Dec.{leb, eqb}
 use lib.ListN.{length, get_or, take, drop}
+use lib.Seq.{take_all}
 use Rattle.std.specs.Cmp.Lexicographic.{pointwise}
 use Rattle.count.specs.Below.{pick}
 use Rattle.count.proofs.Logic.{true_or_false, same_or_not, not_both, pick_yes}
@@ -49,18 +50,13 @@ pub digit_over : (s : List ℕ) → 58 ≤ get_or s 0 0 → none ≡ read_digit 
 digit_over [] h = absurd (omega arith)
 digit_over (c ∷ s) h = no_digit c s (λ b. omega arith)
 
-take_whole : (s : List ℕ) → take (length s) s ≡ s
-take_whole [] = refl
-take_whole (c ∷ s) = ap (λ l. c ∷ l) (take_whole s)
-
 pub digit_is : (s : List ℕ) (d : ℕ) → 1 ≤ length s → 48 ≤ get_or s 0 0 → get_or s 0 0 < 58 → d ≡ get_or s 0 0 - 48
     → some (record { value = d; rest = take (length s - 1) (drop 1 s) }) ≡ read_digit s
 unfolding read_digit
 digit_is [] d h a b e = absurd (omega arith)
 digit_is (c ∷ s) d h a b e =
     let g : is_digit c ≡ true = (decides_digit c).complete (omega arith) in
-    let n : length (c ∷ s) - 1 ≡ length s = omega arith in
-    let r : take (length (c ∷ s) - 1) (drop 1 (c ∷ s)) ≡ s = ap (λ k. take k s) n ∙ take_whole s in
+    let r : take (length (c ∷ s) - 1) (drop 1 (c ∷ s)) ≡ s = take_all (length (c ∷ s) - 1) s (omega arith) in
     rw (g, r, e)
 
 pub record Digit (s : List ℕ) (r : Read) : Type 0 where

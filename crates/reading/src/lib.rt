@@ -3,7 +3,7 @@
 //     parse   writes the turning list and the marks of the drawing that the text denotes, and answers m;
 //             or declines with 17
 //
-// Conventions. A position in the text counts its bytes from 0; past the end stands nothing. Where
+// Conventions. What is read of a text is answered with the text after it, or nothing is. Where
 // parse declines, the lists stay as they were, and where it answers m, the entries after the first
 // 2m turning entries and the first m marks do: 4,096 and 2,048 entries have room for every drawing.
 // The text is read twice, line by line, once to see that all of it is well formed and once to write.

@@ -1,13 +1,13 @@
 // The whole text: a schedule, or the line of a refusal.
 ghost use Rattle.std.specs.Prelude.{◌≡◌, length};
 ghost use Rattle.answers.specs.Lent.{laid};
-ghost use Rattle.format.specs.Open.{open_refusal};
 ghost use Rattle.printing.specs.Writing.{Wrote};
 ghost use Rattle.tallying.specs.Tallied.{Tallied};
 ghost use Rattle.text.specs.Listing.{refused_line};
 ghost use Rattle.text.specs.Schedule.{schedule, schedule_of};
 
 use crate::pages::put_pages;
+use opening::{OpenMap, open_map};
 use printing::Page;
 use tallying::{MOST_AREAS, tally};
 
@@ -19,8 +19,8 @@ pub fn schedule(map: &[u8], out: &mut [u8; ROOM]) -> usize
     ensures value { result ≡ length (schedule_of map.now) }
     ensures out_after { out.new ≡ laid (schedule_of map.now) out.old }
 {
-    match opening::check(map) {
-        Ok(()) => put_schedule(map, out),
+    match open_map(map) {
+        Ok(open) => put_schedule(open, out),
         Err(e) => refused(u8::from(e), out),
     }
 }
@@ -34,9 +34,8 @@ pub fn refused(k: u8, out: &mut [u8; ROOM]) -> usize
 }
 
 // The schedule of a map that opens.
-fn put_schedule(map: &[u8], out: &mut [u8; ROOM]) -> usize
-    requires { open_refusal map.now ≡ 0 }
-    ensures { Wrote out.old 0 (schedule map.now) result out.new }
+fn put_schedule(map: OpenMap<'_>, out: &mut [u8; ROOM]) -> usize
+    ensures { Wrote out.old 0 (schedule map.entry.bytes.now) result out.new }
 {
     let mut sides = [0u16; MOST_AREAS];
     let mut firsts = [0u16; MOST_AREAS];
@@ -46,13 +45,13 @@ fn put_schedule(map: &[u8], out: &mut [u8; ROOM]) -> usize
 
 // The schedule from the sides and the first places of its areas.
 fn put_tallied(
-    map: &[u8],
+    map: OpenMap<'_>,
     sides: &[u16; MOST_AREAS],
     firsts: &[u16; MOST_AREAS],
     out: &mut [u8; ROOM],
 ) -> usize
-    requires { (open_refusal map.now ≡ 0) × Tallied map.now sides.now firsts.now }
-    ensures { Wrote out.old 0 (schedule map.now) result out.new }
+    requires { Tallied map.bytes.now sides.now firsts.now }
+    ensures { Wrote out.old 0 (schedule map.entry.bytes.now) result out.new }
 {
     let mut page = Page::new(out);
     put_pages(map, sides, firsts, &mut page);

@@ -8,7 +8,7 @@ ghost use Rattle.searching.specs.Joined.{joined_in, joined_from, Start};
 
 use answers::Point;
 use layout::bits_a;
-use opening::Cell;
+use opening::{Cell, OpenMap};
 use sizing::size_at;
 use surveying::{Lists, Survey};
 use walking::{first_at, step_past};
@@ -41,19 +41,20 @@ fn join_about(map: &[u8], v: Point, k: usize, f: usize) -> usize
     requires { Start map.now f }
     ensures { result ≡ joined_from map.now v.0 f }
 {
-    match join_from(&Survey::empty(map), v, walked(bits_a(map), k), f) {
+    let open = OpenMap { bytes: map };
+    match join_from(&Survey::empty(open), v, walked(bits_a(map), k), f) {
         Some(early) => early,
-        None => join_surveyed(map, v, f),
+        None => join_surveyed(open, v, f),
     }
 }
 
 // The same, looked up in lists of the whole map: no place is left out.
-fn join_surveyed(map: &[u8], v: Point, f: usize) -> usize
-    requires { Start map.now f }
-    ensures { result ≡ joined_from map.now v.0 f }
+fn join_surveyed(map: OpenMap<'_>, v: Point, f: usize) -> usize
+    requires { Start map.bytes.now f }
+    ensures { result ≡ joined_from map.entry.bytes.now v.0 f }
 {
     let mut lists = Lists::new();
-    join_from(&lists.survey(map), v, bits_a(map), f).unwrap()
+    join_from(&lists.survey(map), v, bits_a(map.bytes), f).unwrap()
 }
 
 // How many of k places are looked at by walking, in a map of n places: all, where a survey would take longer.
@@ -63,7 +64,7 @@ fn walked(n: usize, k: usize) -> usize {
 
 // The first place about a point, in turning order from its first position f on, whose crossing lands at v; 0 where none does.
 // Turning leads to higher positions until the point's last. Of more than `most` places the others are not looked at: where they
-// may be needed, the answer is None. The loop is not a `for`, which yields no place.
+// may be needed, the answer is None. The loop is no `for`: document 01 wants it to yield its place by break.
 fn join_from(survey: &Survey, v: Point, most: usize, f: usize) -> Option<usize>
     requires { Start survey.now.map.now f }
     ensures { Early (bits_a (size_in survey.now.map.now)) most (joined_from survey.now.map.now v.0 f) result }

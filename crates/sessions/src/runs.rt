@@ -1,18 +1,18 @@
 // A session: the checks, once, then one call after the other, with the place passed on.
-ghost use Rattle.std.specs.Prelude.{◌≡◌, length};
+ghost use Rattle.std.specs.Prelude.{◌≡◌, true, length};
 ghost use Rattle.answers.specs.Means.{place_means};
 ghost use Rattle.answers.specs.Answer.{told};
 ghost use Rattle.answers.specs.Lent.{laid, leaves};
 ghost use Rattle.drawing.specs.Session.{Outcome};
 ghost use Rattle.format.specs.Calls.{map_session};
-ghost use Rattle.format.specs.Open.{open_refusal};
-ghost use Rattle.format.specs.Sessions.{calls_of, ran_of, statuses_of, values_of};
+ghost use Rattle.format.specs.Sessions.{are_calls, calls_of, ran_of, statuses_of, values_of};
 ghost use Rattle.sessions.specs.Runs.{Room, Leaves};
 
 use crate::codes::are_calls;
 use answers::{Place, Refusal};
-use calling::tell;
+use calling::{Call, tell};
 use layout::bits_a;
+use opening::{OpenMap, open_map};
 use surveying::{Lists, Survey};
 
 // A list of calls is short that has fewer than FEW, and one more for so many places: a call that walks through the bytes takes
@@ -38,7 +38,7 @@ pub fn session(
         (ran_of map.now first.0 calls.now (length statuses.old) (length answers.old))
         answers.old }
 {
-    opening::check(map)?;
+    let open = open_map(map)?;
     if statuses.len() < calls.len() {
         return Err(Refusal::Room);
     }
@@ -48,42 +48,29 @@ pub fn session(
     if !are_calls(calls) {
         return Err(Refusal::NoCall);
     }
-    Ok(run_open(map, first, calls, statuses, answers))
-}
-
-// The calls on bytes that open: few walk through the bytes, many look up in lists of the whole map.
-fn run_open(
-    map: &[u8],
-    first: Place,
-    calls: &[u8],
-    statuses: &mut [u8],
-    answers: &mut [u16],
-) -> Place
-    requires { (open_refusal map.now ≡ 0) × Room calls.now statuses.old answers.old }
-    ensures { Leaves (map_session map.now first.0 (calls_of calls.now))
-        result.0 statuses.old answers.old statuses.new answers.new }
-{
     if is_short(map, calls) {
-        return run(&Survey::empty(map), first, calls, statuses, answers);
+        return Ok(run(&Survey::empty(open), first, calls, statuses, answers));
     }
-    run_surveyed(map, first, calls, statuses, answers)
+    Ok(run_surveyed(open, first, calls, statuses, answers))
 }
 
-// Whether a list of calls is short. The answers are the same either way.
+// Whether a list of calls is short: few calls walk through the bytes, many look up in lists of the whole map. The answers are the
+// same either way.
 fn is_short(map: &[u8], calls: &[u8]) -> bool {
     calls.len() < FEW + bits_a(map) / PLACES_A_CALL
 }
 
-// Many calls: the lists have room for a map of every size.
+// Many calls, on bytes that open. A function of its own, so that the lists are not on the stack of a short session.
 fn run_surveyed(
-    map: &[u8],
+    map: OpenMap<'_>,
     first: Place,
     calls: &[u8],
     statuses: &mut [u8],
     answers: &mut [u16],
 ) -> Place
-    requires { (open_refusal map.now ≡ 0) × Room calls.now statuses.old answers.old }
-    ensures { Leaves (map_session map.now first.0 (calls_of calls.now))
+    requires room { Room calls.now statuses.old answers.old }
+    requires codes { are_calls calls.now ≡ true }
+    ensures { Leaves (map_session map.entry.bytes.now first.0 (calls_of calls.now))
         result.0 statuses.old answers.old statuses.new answers.new }
 {
     let mut lists = Lists::new();
@@ -91,6 +78,7 @@ fn run_surveyed(
 }
 
 // The calls in order: "It holds one number, the place".
+#[tactic(auto, using(crate::proofs::Passing::partway_start, crate::proofs::Coded::code_read, crate::proofs::Passing::partway_end))]
 fn run(
     survey: &Survey,
     first: Place,
@@ -98,16 +86,25 @@ fn run(
     statuses: &mut [u8],
     answers: &mut [u16],
 ) -> Place
-    requires { Room calls.now statuses.old answers.old }
+    requires room { Room calls.now statuses.old answers.old }
+    requires codes { are_calls calls.now ≡ true }
     ensures { Leaves (map_session survey.now.map.now first.0 (calls_of calls.now))
         result.0 statuses.old answers.old statuses.new answers.new }
 {
     let mut place = first;
-    for i in 0..calls.len() {
-        let told = tell(survey, calls[i], place);
-        statuses[i] = told.status;
-        answers[i] = told.value;
-        place = told.place;
+    for (i, &code) in calls.iter().enumerate() {
+        let call = Call::try_from(code).unwrap();
+        match tell(survey, call, place) {
+            Ok(found) => {
+                statuses[i] = 0;
+                answers[i] = found.entry();
+                place = found.place_after(place);
+            }
+            Err(e) => {
+                statuses[i] = u8::from(e);
+                answers[i] = 0;
+            }
+        }
     }
     place
 }

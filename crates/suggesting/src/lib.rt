@@ -1,6 +1,6 @@
 // Marks found for the drawer: checks 1 to 4 and 21, and the marks of a spanning tree. Linear in the number of borders.
 //
-//     suggest   writes the marks and answers 0, or answers the number of the check that declines
+//     suggest   writes the marks, or names the check that declines
 //
 // Conventions. A drawing is lent as its turning list and its marks, which are overwritten and not read; in a contract it is `lent`
 // of the crate `drawing`, with any start. The working list has three thirds of 2m entries. It is used after check 3 and left

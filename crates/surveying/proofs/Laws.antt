@@ -5,7 +5,6 @@
 -- listed_size     == the degree of a point (the sides of an area): how many entries have its number
 -- listed_first    == its first position: the first entry that has its number
 -- listed_across   == the area (the point) across a place: the number at its mate
--- early_is, early_full == what is found is the answer; it is found if all places may be looked at
 -- In turning order, or along the area's walk, its positions come in rising order (`walk_rises`, `walk_returns` of `words`).
 -- Assumes nothing.
 use mathlib.Core.Path.{◌≡◌, sym, ap, ◌∙◌}
@@ -14,9 +13,6 @@ use Prim.Native.Nat.{ℕ, ◌<◌, ◌≤◌}
 use native.Mathlib.Omega.{arith}
 use lib.Dec.{eqb}
 use lib.ListN.{length, get_or, drop, length-append, length-drop}
-use Rattle.std.specs.Prelude.{IsSome}
-use Rattle.std.specs.declared.option.Option.{Option}
-use Rattle.std.specs.declared.option.Option.TheVariants.{Some}
 use Rattle.count.specs.Below.{count, find, table}
 use Rattle.count.proofs.Below.{count_same}
 use Rattle.count.proofs.Search.{find_same}
@@ -30,7 +26,7 @@ use Rattle.words.proofs.Mates.{mate_in_below}
 use Rattle.format.specs.Bytes.{size_in, bits_a, word_in}
 use Rattle.format.specs.Open.{open_refusal}
 use Rattle.walking.proofs.Decoded.{nested, places_most}
-use Rattle.surveying.specs.Surveyed.{mates_in, numbers_in, Mates, Numbers, Early}
+use Rattle.surveying.specs.Surveyed.{mates_in, numbers_in, Mates, Numbers}
 
 module _ (s l old : List ℕ) where
   pub mates_are : l ≡ laid (mates_in s) old → Mates s l
@@ -84,11 +80,3 @@ module _ (s old l : List ℕ) (O : open_refusal s ≡ 0) (h : length old ≡ 409
   pub numbers_long : (K : Family) → l ≡ laid (numbers_in K s) old → 4096 ≡ length l
   unfolding numbers_in
   numbers_long K e = laid_long (number (seen K (word_in s))) e
-
--- ---- few places by walking, or all of them
-module _ (n most x : ℕ) (r : Option ℕ) (E : Early n most x r) where
-  pub early_is : (y : ℕ) → r ≡ Some y → y ≡ x
-  early_is = E.is
-
-  pub early_full : most ≡ n → IsSome r
-  early_full e = E.enough (omega arith)

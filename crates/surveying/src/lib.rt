@@ -11,8 +11,8 @@
 // leads to; entry p of `areas` and of `points` is the number of its area and of its point, from 1. The lists stand on
 // the stack of whoever calls, with room for the largest map; the entries beyond the last position stay as they were.
 // A Survey looks up in its lists. For a position that a list has no entry for it walks through the bytes as the crate
-// `walking` does, so that empty lists serve where few places are asked about. The bytes of a Survey open: whoever makes
-// one has checked, and whoever is given one need not ask.
+// `walking` does, so that empty lists serve where few places are asked about. The bytes of a Survey open: it is
+// made of an OpenMap, and whoever is given one need not ask.
 //
 // The pass is that of the crate `pairing`, which reads A, B and B* once, forwards, and knows no map. The source is document
 // 01, "Tour and packed map" and "Moves": the area of a place is that of the innermost [ open just before it, its point that of
@@ -24,6 +24,6 @@ mod lists;
 mod moves;
 mod pass;
 
-pub use lists::{Lists, MOST_PLACES};
+pub use lists::Lists;
 pub use moves::Survey;
 pub use pass::survey;

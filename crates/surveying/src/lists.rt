@@ -1,12 +1,12 @@
 // The memory of the lists, and a map surveyed into it.
 ghost use Rattle.std.specs.Prelude.{◌≡◌, length, replicate};
-ghost use Rattle.format.specs.Open.{open_refusal};
 
 use crate::moves::Survey;
 use crate::pass::survey;
+use opening::OpenMap;
 
 // The most places of a map.
-pub const MOST_PLACES: usize = 4096;
+const MOST_PLACES: usize = 4096;
 
 // Room for the lists of the largest map, on the stack of whoever asks.
 #[derive(Drop)]
@@ -29,14 +29,13 @@ impl Lists {
     }
 
     // One pass over the map fills the lists, whatever they held.
-    pub fn survey<'a>(&'a mut self, map: &'a [u8]) -> Survey<'a>
-        requires { open_refusal map.now ≡ 0 }
-        ensures of_map { result.map.now ≡ map.now }
+    pub fn survey<'a>(&'a mut self, map: OpenMap<'a>) -> Survey<'a>
+        ensures of_map { result.map.now ≡ map.entry.bytes.now }
         ensures whole { (4096 ≡ length result.mates.now) × (4096 ≡ length result.areas.now) × (4096 ≡ length result.points.now) }
     {
         survey(map, &mut self.mates, &mut self.areas, &mut self.points);
         Survey {
-            map,
+            map: map.bytes,
             mates: &self.mates,
             areas: &self.areas,
             points: &self.points,

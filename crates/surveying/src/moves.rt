@@ -5,12 +5,12 @@ ghost use Rattle.words.specs.Brackets.{mate, step, back, number};
 ghost use Rattle.words.specs.declared.family.Family.TheVariants.{Round as round, Square as square};
 ghost use Rattle.words.specs.Word.{seen, mate_in};
 ghost use Rattle.format.specs.Bytes.{size_in, bits_a, word_in};
-ghost use Rattle.format.specs.Open.{open_refusal};
 ghost use Rattle.walking.specs.Positions.{Position};
 ghost use Rattle.surveying.specs.Surveyed.{Numbers, Surveyed};
 
 use answers::{Area, Point};
 use layout::{bits_a, family_bit, part_a};
+use opening::OpenMap;
 use walking::{after, before, mate_at, number_at, own_mate_at};
 use words::Family;
 
@@ -26,12 +26,11 @@ pub struct Survey<'a> {
 
 impl<'a> Survey<'a> {
     // Empty lists: whatever is asked is found by walking.
-    pub fn empty(map: &'a [u8]) -> Survey<'a>
-        requires { open_refusal map.now ≡ 0 }
-        ensures { result.map.now ≡ map.now }
+    pub fn empty(map: OpenMap<'a>) -> Survey<'a>
+        ensures { result.map.now ≡ map.entry.bytes.now }
     {
         Survey {
-            map,
+            map: map.bytes,
             mates: &[],
             areas: &[],
             points: &[],

@@ -6,7 +6,7 @@
 -- first_place     == every area of a map with a place has one, so that at the end it is the first place
 -- blank_zeros     == a list of zeros is blank
 -- Tallying        == what the loop of `count_sides` keeps: the sides from position p on are noted
--- tallied_position == the place before them is one of the map
+-- tallied_position, tallied_area == the place before them is one of the map, and its area stands in the list
 -- sides_entry, firsts_entry, sides_fit == there is an entry for the area of a position, and one side more fits
 -- tallied_start, tallied_more == before the last place, one place more
 -- tallied_all, tallied_sides, tallied_firsts == after the first
@@ -36,6 +36,7 @@ use Rattle.format.specs.Open.{open_refusal}
 use Rattle.format.specs.Calls.{cells_in, first_in, places_in}
 use Rattle.format.proofs.Openings.{cells_numbers, number_cells, areas_most}
 use Rattle.lending.proofs.Laying.{laid_table}
+use Rattle.surveying.specs.Surveyed.{Numbers}
 use Rattle.walking.specs.Positions.{Position}
 use Rattle.walking.proofs.Decoded.{nested, places_most}
 use Rattle.tallying.specs.Tallied.{sides_in, firsts_in, Blank, Tallied, entry_at, HasEntry, Noted}
@@ -117,6 +118,10 @@ module _ (s ss₀ fs₀ : List ℕ) where
   module _ (p : ℕ) (ss fs : List ℕ) (T : Tallying s ss₀ fs₀ p ss fs) where
     pub tallied_position : 0 < p → Position s (p - 1)
     tallied_position l = record { opens = T.opens; below = omega (arith, T.within); few = omega (arith, T.few) }
+
+    pub tallied_area : 0 < p → (areas : List ℕ) → Numbers square s areas → 4096 ≤ length areas → (a : ℕ) → a ≡ get_or areas (p - 1) 0
+        → a ≡ number (seen square (word_in s)) (p - 1)
+    tallied_area l areas N h a e = e ∙ N.at (p - 1) (omega (arith, T.within)) (omega (arith, T.few))
 
     -- the area of a position has an entry, with room for one side more
     module _ (q a : ℕ) (Q : Position s q) (ha : a ≡ number (seen square (word_in s)) q) where

@@ -1,38 +1,42 @@
 // Counting the sides of all areas in one loop over the places of a map.
 ghost use Rattle.std.specs.Prelude.{◌≡◌, ◌<◌, ◌≤◌, length};
 ghost use Rattle.answers.specs.Lent.{laid};
-ghost use Rattle.format.specs.Open.{open_refusal};
 ghost use Rattle.tallying.specs.Tallied.{sides_in, firsts_in, Blank, Tallied, entry_at, HasEntry, Noted};
 
 use crate::entries::index_of;
 use answers::{Area, Place};
 use layout::bits_a;
+use opening::OpenMap;
 use surveying::{Lists, Survey};
 
 // The most areas of a map: 2,048 borders on one point.
 pub const MOST_AREAS: usize = 2049;
 
-// Fills the lists of a map: how many sides each area has, and its first place.
-pub fn tally(map: &[u8], sides: &mut [u16; MOST_AREAS], firsts: &mut [u16; MOST_AREAS])
-    requires { (open_refusal map.now ≡ 0) × Blank sides.old × Blank firsts.old }
-    ensures sides_after { sides.new ≡ laid (sides_in map.now) sides.old }
-    ensures firsts_after { firsts.new ≡ laid (firsts_in map.now) firsts.old }
-    ensures tallied { Tallied map.now sides.new firsts.new }
+// Fills the lists of a map: how many sides each area has, and its first place. Two lists, not one of pairs: the contract of `tally`,
+// which docs/AUDIT.md cites, says of each what it holds after.
+pub fn tally(map: OpenMap<'_>, sides: &mut [u16; MOST_AREAS], firsts: &mut [u16; MOST_AREAS])
+    requires { Blank sides.old × Blank firsts.old }
+    ensures sides_after { sides.new ≡ laid (sides_in map.entry.bytes.now) sides.old }
+    ensures firsts_after { firsts.new ≡ laid (firsts_in map.entry.bytes.now) firsts.old }
+    ensures tallied { Tallied map.entry.bytes.now sides.new firsts.new }
 {
     let mut lists = Lists::new();
     count_sides(&lists.survey(map), sides, firsts);
 }
 
 // Each place is a side of its area. They are met from the last down, so that the place stored last for an area is its first: nothing
-// is chosen, and there is no jump, which the areas of a map would make slow.
+// is chosen, and there is no jump, which the areas of a map would make slow. The list is indexed outright: a survey's lookup asks
+// first whether there is an entry.
 fn count_sides(survey: &Survey, sides: &mut [u16], firsts: &mut [u16])
+    requires whole { 4096 ≤ length survey.now.areas.now }
     requires blank { Blank sides.old × (2049 ≤ length sides.old) × Blank firsts.old × (2049 ≤ length firsts.old) }
     ensures sides_after { sides.new ≡ laid (sides_in survey.now.map.now) sides.old }
     ensures firsts_after { firsts.new ≡ laid (firsts_in survey.now.map.now) firsts.old }
     ensures tallied { Tallied survey.now.map.now sides.new firsts.new }
 {
+    let areas = survey.areas;
     for p in (0..bits_a(survey.map)).rev() {
-        let area = survey.area(p);
+        let area = Area(usize::from(areas[p]));
         note_side(sides, firsts, area, Place(p + 1));
     }
 }

@@ -6,7 +6,7 @@
 //
 // Conventions. Entry k - 1 of a list is that of area k, which only the functions here need to know: whoever calls looks an area up
 // by its number. The lists stand on the stack of whoever calls, with room for the most areas, 2,049, and are lent with every entry
-// 0; the entries beyond the last area stay so. tally asks that the bytes open, the lookups that there is an entry: whoever calls
+// 0; the entries beyond the last area stay so. tally is given bytes that open; the lookups ask that there is an entry: whoever calls
 // has checked.
 //
 // One loop over the areas of all places, which the crate `surveying` finds in one pass, counts the sides of all areas at once. It

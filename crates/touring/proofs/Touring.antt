@@ -1,7 +1,7 @@
 -- The tour, end by end, and which places are second.
 --
 -- crossed_marked, crossed_below, crossed_not == the end across a marked border, or the end itself
--- Touring ts ms s old h p w == the first p ends of the tour stand in w, and h is the next
+-- Touring D old h p w == the first p ends of the tour stand in w, and h is the next
 -- touring_..       == from one end to the next, and at the end
 -- Telling places old p w == of the first p positions w says which are second, and the last third which borders were met
 -- telling_..       == from one position to the next, and at the end
@@ -22,7 +22,7 @@ use mir.Syntax.{w16, w64}
 use mir.Val.{Fits}
 use Rattle.count.specs.Below.{any, pick}
 use Rattle.count.proofs.Logic.{same_or_not, either_left}
-use Rattle.drawing.specs.Drawing.{borders, ends, border, other, turn, is_marked, over, walk, end_at, lent}
+use Rattle.drawing.specs.Drawing.{Drawing, borders, ends, border, other, turn, is_marked, over, walk, end_at, lent}
 use Rattle.drawing.specs.Checks.{LengthsFit, InRange}
 use Rattle.drawing.proofs.Ends.{other_below, over_yes, over_no, end_zero, end_after}
 use Rattle.lending.specs.Lists.{Outside}
@@ -53,27 +53,24 @@ module _ (ms : List ℕ) (h : ℕ) where
   crossed_not n ts s = sym (over_no (is_marked (lent ts ms s)) h (ne_eqb (get_or ms (h / 2) 0) 1 n))
 
 -- ---- tour
-pub record Touring (ts ms : List ℕ) (s : ℕ) (old : List ℕ) (h p : ℕ) (w : List ℕ) : Type 0 where
-  pub within : p ≤ length ts
-  pub room : length ts ≤ length w
-  pub an_end : 0 < length ts → h < length ts
-  pub is : h ≡ end_at (lent ts ms s) p
-  pub so_far : (q : ℕ) → q < p → get_or w q 0 ≡ end_at (lent ts ms s) q
-  pub outside : Outside 0 (length ts) old w
+pub record Touring (D : Drawing) (old : List ℕ) (h p : ℕ) (w : List ℕ) : Type 0 where
+  pub within : p ≤ length D.turning
+  pub room : length D.turning ≤ length w
+  pub an_end : 0 < length D.turning → h < length D.turning
+  pub is : h ≡ end_at D p
+  pub so_far : (q : ℕ) → q < p → get_or w q 0 ≡ end_at D q
+  pub outside : Outside 0 (length D.turning) old w
 
 module _ (ts ms : List ℕ) (s : ℕ) (F : LengthsFit (lent ts ms s)) where
   pub touring_entry : (r : ℕ) → r < 2 * length ms → r < length ts
   touring_entry r l = omega (arith, F.half)
-
-  pub touring_index : (r : ℕ) → r < 2 * length ms → Fits w64 r
-  touring_index r l = record { fits = omega (arith, F.half, F.most) }
 
 module _ (ts ms : List ℕ) (s : ℕ) (F : LengthsFit (lent ts ms s)) (I : InRange (lent ts ms s)) (old : List ℕ) where
   pub touring_narrow : Fits w16 s
   unfolding ends borders
   touring_narrow = record { fits = omega (arith, I.start, F.half, F.most) }
 
-  pub touring_start : length ts ≤ length old → Touring ts ms s old s 0 old
+  pub touring_start : length ts ≤ length old → Touring (lent ts ms s) old s 0 old
   unfolding ends borders
   touring_start l =
       record {
@@ -85,12 +82,12 @@ module _ (ts ms : List ℕ) (s : ℕ) (F : LengthsFit (lent ts ms s)) (I : InRan
         outside = outside_none 0 (length ts) old;
       }
 
-  module _ (h p : ℕ) (w : List ℕ) (T : Touring ts ms s old h p w) where
+  module _ (h p : ℕ) (w : List ℕ) (T : Touring (lent ts ms s) old h p w) where
     pub touring_end : p < length ts → h < 2 * length ms
     touring_end l = omega (arith, T.an_end (omega arith), F.half)
 
     pub touring_more : p < length ts → (r : ℕ) → ((ts : List ℕ) (s : ℕ) → r ≡ over (is_marked (lent ts ms s)) h) × (r < 2 * length ms)
-        → Touring ts ms s old (get_or ts r 0) (p + 1) (set w p h)
+        → Touring (lent ts ms s) old (get_or ts r 0) (p + 1) (set w p h)
     unfolding ends borders turn walk
     touring_more l r c =
         let b : r < length ts = omega (arith, c.1, F.half) in
@@ -115,9 +112,6 @@ module _ (ts ms : List ℕ) (s : ℕ) (F : LengthsFit (lent ts ms s)) (I : InRan
 
     pub touring_outside : Outside 0 (length ts) old w
     touring_outside = T.outside
-
-    pub touring_length : length w ≡ length old
-    touring_length = T.outside.same_length
 
 -- ---- seconds
 pub record Telling (places : ℕ) (old : List ℕ) (p : ℕ) (w : List ℕ) : Type 0 where
@@ -147,9 +141,6 @@ module _ (places : ℕ) (old : List ℕ) (C : Clean places old) where
       }
 
   module _ (p : ℕ) (w : List ℕ) (T : Telling places old p w) where
-    pub telling_length : length w ≡ length old
-    telling_length = T.outside.same_length
-
     pub telling_all : places ≤ p → Noted places old w
     unfolding is_met
     telling_all l =

@@ -3,22 +3,24 @@ ghost use Rattle.std.specs.Prelude.{◌≡◌, List, ℕ, ◌*◌, ◌<◌, ◌�
 ghost use Rattle.drawing.specs.Drawing.{is_marked, over, lent};
 ghost use Rattle.drawing.specs.Checks.{LengthsFit, InRange};
 ghost use Rattle.lending.specs.Lists.{Outside};
+ghost use Rattle.checking.specs.Lent.{drawn};
 ghost use Rattle.touring.specs.Working.{Tours, Clean, Noted};
 
 use crate::work::border_in;
+use checking::Lent;
 
 // Puts the end at each position of the tour into the first 2m entries.
-pub fn tour(turning: &[u16], marks: &[u8], start: usize, work: &mut [u16])
-    requires { LengthsFit (lent turning.now marks.now start)
-        × InRange (lent turning.now marks.now start)
-        × (length turning.now ≤ length work.old) }
-    ensures tours { Tours (lent turning.now marks.now start) work.new }
-    ensures outside { Outside 0 (length turning.now) work.old work.new }
+pub fn tour(drawing: &Lent, work: &mut [u16])
+    requires { LengthsFit (drawn drawing.now)
+        × InRange (drawn drawing.now)
+        × (length drawing.now.turning.now ≤ length work.old) }
+    ensures tours { Tours (drawn drawing.now) work.new }
+    ensures outside { Outside 0 (length drawing.now.turning.now) work.old work.new }
 {
-    let mut h = start as u16;
-    for p in 0..turning.len() {
+    let mut h = drawing.start as u16;
+    for p in 0..drawing.turning.len() {
         work[p] = h;
-        h = turning[usize::from(crossed(marks, h))];
+        h = drawing.turning[usize::from(crossed(drawing.marks, h))];
     }
 }
 

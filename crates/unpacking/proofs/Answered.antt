@@ -67,11 +67,14 @@ module _ (s t k : List ℕ) where
         short (not_both (leb (2 * (size_in s).m) (length t)) (leb (size_in s).m (length k))
         (λ x y. let g = leb-true (size_in s).m (length k) y in omega arith))
 
-    pub unpack_answers : (t' k' : List ℕ) → 2 * m ≤ length t → m ≤ length k
-        → t' ≡ laid (drawing_of (word_in s)).turning t → k' ≡ laid (drawing_of (word_in s)).marks k → Outcome s t k (answer m) t' k'
+    -- o: the bytes that open, as they were given back
+    pub unpack_answers : (o t' k' : List ℕ) → o ≡ s → 2 * m ≤ length t → m ≤ length k
+        → t' ≡ laid (drawing_of (word_in o)).turning t → k' ≡ laid (drawing_of (word_in o)).marks k → Outcome s t k (answer m) t' k'
     unfolding roomy word_in leaves
-    unpack_answers t' k' a b ht hk =
+    unpack_answers o t' k' same a b hto hko =
         let D = drawing_of (word_in s) in
+        let ht : t' ≡ laid D.turning t = hto ∙ ap (λ x. laid (drawing_of (word_in x)).turning t) same in
+        let hk : k' ≡ laid D.marks k = hko ∙ ap (λ x. laid (drawing_of (word_in x)).marks k) same in
         let r : roomy ≡ true
         = both (leb (2 * (size_in s).m) (length t)) (leb (size_in s).m (length k))
         (le-leb (2 * (size_in s).m) (length t) (omega arith)) (le-leb (size_in s).m (length k) (omega arith)) in

@@ -1,19 +1,19 @@
 // The end at each position of the word, in one pass: borders are numbered as their first places come.
 ghost use Rattle.std.specs.Prelude.{◌≡◌, ◌+◌, ◌<◌, ◌≤◌, ltb, length};
 ghost use Rattle.count.specs.Below.{pick};
-ghost use Rattle.format.specs.Open.{open_refusal};
 ghost use Rattle.surveying.specs.Surveyed.{Mates};
 ghost use Rattle.unpacking.specs.Ended.{Ends};
 
 use layout::bits_a;
+use opening::OpenMap;
 
 // Writes the end at each position.
-pub fn write_ends(map: &[u8], mates: &[u16], ends: &mut [u16])
-    requires map_value { (open_refusal map.now ≡ 0) × Mates map.now mates.now }
+pub fn write_ends(map: OpenMap<'_>, mates: &[u16], ends: &mut [u16])
+    requires map_value { Mates map.bytes.now mates.now }
     requires in_bounds { (4096 ≤ length mates.now) × (4096 ≤ length ends.old) }
-    ensures { Ends map.now ends.new }
+    ensures { Ends map.entry.bytes.now ends.new }
 {
-    let n = bits_a(map);
+    let n = bits_a(map.bytes);
     let mut even = 0;
     for p in 0..n {
         let q = usize::from(mates[p]);

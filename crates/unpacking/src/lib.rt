@@ -1,6 +1,6 @@
 // Unpacking a packed map into a drawing: its turning list and its marks, in lent lists.
 //
-//     unpack   writes the turning list and the marks, and answers m; or declines with a number
+//     unpack   writes the turning list and the marks, and answers m; or names the check that declines
 //
 // Conventions. Position p of the word is place p + 1. Unpacking numbers borders by their first places;
 // the first place is the even end, the second the odd one, and the start is end 0. unpack takes any

@@ -6,7 +6,6 @@ ghost use Rattle.answers.specs.Lent.{laid, leaves};
 ghost use Rattle.answers.specs.Means.{unpacked_means};
 ghost use Rattle.drawing.specs.Drawing.{most_ends, borders, Drawing};
 ghost use Rattle.format.specs.Bytes.{size_in, bits_a, word_in};
-ghost use Rattle.format.specs.Open.{open_refusal};
 ghost use Rattle.format.specs.Pack.{drawing_of, unpack_of};
 ghost use Rattle.surveying.specs.Surveyed.{Mates};
 ghost use Rattle.unpacking.specs.Ended.{Ends};
@@ -14,6 +13,7 @@ ghost use Rattle.unpacking.specs.Ended.{Ends};
 use crate::ends::write_ends;
 use answers::Refusal;
 use layout::{bits_a, borders, part_a};
+use opening::{OpenMap, open_map};
 use surveying::survey;
 use walking::after;
 
@@ -25,7 +25,7 @@ pub fn unpack(map: &[u8], turning: &mut [u16], marks: &mut [u8]) -> Result<usize
     ensures marks_after { marks.new ≡ leaves (λ (D : Drawing). laid D.marks)
         (unpack_of map.now (length turning.old) (length marks.old)) marks.old }
 {
-    opening::check(map)?;
+    let open = open_map(map)?;
     let m = borders(map);
     if turning.len() < 2 * m {
         return Err(Refusal::ShortLists);
@@ -33,15 +33,15 @@ pub fn unpack(map: &[u8], turning: &mut [u16], marks: &mut [u8]) -> Result<usize
     if marks.len() < m {
         return Err(Refusal::ShortLists);
     }
-    write(map, turning, marks);
+    write(open, turning, marks);
     Ok(m)
 }
 
 // Writes the drawing of a map that opens.
-fn write(map: &[u8], turning: &mut [u16], marks: &mut [u8])
-    requires { (open_refusal map.now ≡ 0) × (bits_a (size_in map.now) ≤ length turning.old) × ((size_in map.now).m ≤ length marks.old) }
-    ensures turning_after { turning.new ≡ laid (drawing_of (word_in map.now)).turning turning.old }
-    ensures marks_after { marks.new ≡ laid (drawing_of (word_in map.now)).marks marks.old }
+fn write(map: OpenMap<'_>, turning: &mut [u16], marks: &mut [u8])
+    requires { (bits_a (size_in map.bytes.now) ≤ length turning.old) × ((size_in map.bytes.now).m ≤ length marks.old) }
+    ensures turning_after { turning.new ≡ laid (drawing_of (word_in map.entry.bytes.now)).turning turning.old }
+    ensures marks_after { marks.new ≡ laid (drawing_of (word_in map.entry.bytes.now)).marks marks.old }
 {
     let mut mates = [0u16; 4096];
     let mut areas = [0u16; 4096];
@@ -53,31 +53,37 @@ fn write(map: &[u8], turning: &mut [u16], marks: &mut [u8])
 
 // Writes the drawing from the mates, by way of the ends.
 fn write_from(
-    map: &[u8],
+    map: OpenMap<'_>,
     mates: &[u16; 4096],
     ends: &mut [u16; 4096],
     turning: &mut [u16],
     marks: &mut [u8],
 )
-    requires map_value { (open_refusal map.now ≡ 0) × Mates map.now mates.now }
-    requires map_in_bounds { (bits_a (size_in map.now) ≤ length turning.old) × ((size_in map.now).m ≤ length marks.old) }
-    ensures turning_after { turning.new ≡ laid (drawing_of (word_in map.now)).turning turning.old }
-    ensures marks_after { marks.new ≡ laid (drawing_of (word_in map.now)).marks marks.old }
+    requires map_value { Mates map.bytes.now mates.now }
+    requires map_in_bounds { (bits_a (size_in map.bytes.now) ≤ length turning.old) × ((size_in map.bytes.now).m ≤ length marks.old) }
+    ensures turning_after { turning.new ≡ laid (drawing_of (word_in map.entry.bytes.now)).turning turning.old }
+    ensures marks_after { marks.new ≡ laid (drawing_of (word_in map.entry.bytes.now)).marks marks.old }
 {
     write_ends(map, mates, ends);
     write_drawing(map, mates, ends, turning, marks);
 }
 
 // The entry of the end at each position, and the mark of its border; both positions of a border have one family.
-fn write_drawing(map: &[u8], mates: &[u16], ends: &[u16], turning: &mut [u16], marks: &mut [u8])
-    requires map_value { (open_refusal map.now ≡ 0) × Mates map.now mates.now × Ends map.now ends.now }
+fn write_drawing(
+    map: OpenMap<'_>,
+    mates: &[u16],
+    ends: &[u16],
+    turning: &mut [u16],
+    marks: &mut [u8],
+)
+    requires map_value { Mates map.bytes.now mates.now × Ends map.bytes.now ends.now }
     requires in_bounds { (4096 ≤ length mates.now) × (4096 ≤ length ends.now) }
-    requires map_in_bounds { (bits_a (size_in map.now) ≤ length turning.old) × ((size_in map.now).m ≤ length marks.old) }
-    ensures turning_after { turning.new ≡ laid (drawing_of (word_in map.now)).turning turning.old }
-    ensures marks_after { marks.new ≡ laid (drawing_of (word_in map.now)).marks marks.old }
+    requires map_in_bounds { (bits_a (size_in map.bytes.now) ≤ length turning.old) × ((size_in map.bytes.now).m ≤ length marks.old) }
+    ensures turning_after { turning.new ≡ laid (drawing_of (word_in map.entry.bytes.now)).turning turning.old }
+    ensures marks_after { marks.new ≡ laid (drawing_of (word_in map.entry.bytes.now)).marks marks.old }
 {
-    let n = bits_a(map);
-    let a = part_a(map);
+    let n = bits_a(map.bytes);
+    let a = part_a(map.bytes);
     for p in 0..n {
         let mark = bits::bit(a, p);
         let h = usize::from(ends[p]);

@@ -7,5 +7,5 @@ use Rattle.listing.proofs.print.put_listing.Goals as goal
 pub returns : goal.returns
 unfolding heading
 returns c =
-    listing_wrote c.args.map.now c.args.out.now c.new-page.result _ _ c.new-page.ensures.blank.0 c.new-page.ensures.blank.1 c.text.ensures c.put_lines.ensures _
+    listing_wrote c.args.map.bytes.now c.args.out.now c.new-page.result _ _ c.new-page.ensures.blank.0 c.new-page.ensures.blank.1 c.text.ensures c.put_lines.ensures _
     (search rules)

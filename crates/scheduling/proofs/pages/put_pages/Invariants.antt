@@ -3,4 +3,4 @@ use Rattle.scheduling.proofs.Paging.{Paging}
 use Rattle.scheduling.proofs.pages.put_pages.Given as goal
 
 abbrev pub invariant-loop-i : goal.invariant-loop-i
-invariant-loop-i l = Paging l.map l.sides l.firsts l.initial.page l.i-end l.i l.sum l.page
+invariant-loop-i l = Paging l.map.bytes.now l.sides l.firsts l.initial.page l.i-end l.i l.sum l.page

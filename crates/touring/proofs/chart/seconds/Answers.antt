@@ -1,4 +1,4 @@
-use Rattle.touring.proofs.Touring.{telling_all, telling_flag, telling_here, telling_length, telling_more, telling_place, telling_scaled, telling_start, telling_stored, telling_sum}
+use Rattle.touring.proofs.Touring.{telling_all, telling_flag, telling_here, telling_more, telling_place, telling_scaled, telling_start, telling_stored, telling_sum}
 use Rattle.touring.proofs.chart.seconds.Goals as goal
 
 pub loop-p-init : goal.loop-p-init

@@ -1,4 +1,4 @@
-use Rattle.touring.proofs.Touring.{touring_all, touring_end, touring_entry, touring_length, touring_more, touring_narrow, touring_outside, touring_start}
+use Rattle.touring.proofs.Touring.{touring_all, touring_end, touring_entry, touring_more, touring_narrow, touring_outside, touring_start}
 use Rattle.touring.proofs.chart.tour.Goals as goal
 
 pub overflow_cast-h : goal.overflow_cast-h
@@ -10,8 +10,8 @@ loop-p-init c = search touring_start
 pub crossed-requires : goal.crossed-requires
 crossed-requires c = search touring_end
 
-pub bounds-turning-from : goal.bounds-turning-from
-bounds-turning-from c = rw c.from.ensures (search touring_entry)
+pub bounds-drawing-from : goal.bounds-drawing-from
+bounds-drawing-from c = rw c.from.ensures (search touring_entry)
 
 pub loop-p-preserved : goal.loop-p-preserved
 loop-p-preserved c = rw c.from.ensures (search touring_more)

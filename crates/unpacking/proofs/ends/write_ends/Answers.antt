@@ -19,8 +19,8 @@ bounds-ends-p c = search placing_room
 pub loop-p-preserved : goal.loop-p-preserved
 loop-p-preserved c =
     elim c.if-p-q.branch [
-      | then-p-q w ↦ placing_opens _ _ _ _ _ _ c.loop-p.invariant _ _ (omega arith) c.requires.map_value.1 c.requires.in_bounds.0 c.from-q.ensures _ _ c.from.ensures c.end_by.ensures w.if-p-q.true _ w.even-is
-      | else-p-q w ↦ placing_closes _ _ _ _ _ _ c.loop-p.invariant _ _ (omega arith) c.requires.map_value.1 c.requires.in_bounds.0 c.from-q.ensures _ _ c.from.ensures c.end_by.ensures w.if-p-q.false _ w.even-is
+      | then-p-q w ↦ placing_opens _ _ _ _ _ _ c.loop-p.invariant _ _ (omega arith) c.requires.map_value c.requires.in_bounds.0 c.from-q.ensures _ _ c.from.ensures c.end_by.ensures w.if-p-q.true _ w.even-is
+      | else-p-q w ↦ placing_closes _ _ _ _ _ _ c.loop-p.invariant _ _ (omega arith) c.requires.map_value c.requires.in_bounds.0 c.from-q.ensures _ _ c.from.ensures c.end_by.ensures w.if-p-q.false _ w.even-is
     ]
 
 pub returns : goal.returns

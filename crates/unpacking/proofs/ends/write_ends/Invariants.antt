@@ -3,4 +3,4 @@ use Rattle.unpacking.proofs.Placed.{Placing}
 use Rattle.unpacking.proofs.ends.write_ends.Given as goal
 
 abbrev pub invariant-loop-p : goal.invariant-loop-p
-invariant-loop-p l = Placing l.map l.initial.ends l.n l.p l.even l.ends
+invariant-loop-p l = Placing l.map.bytes.now l.initial.ends l.n l.p l.even l.ends

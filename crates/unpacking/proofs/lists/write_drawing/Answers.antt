@@ -21,7 +21,7 @@ bounds-marks-h c = search marks_room
 
 pub loop-p-preserved : goal.loop-p-preserved
 loop-p-preserved c =
-    writing_more _ _ _ _ _ _ _ c.loop-p.invariant (omega arith) _ _ _ _ _ _ _ _ _ c.requires.map_value.1 c.requires.map_value.2 c.requires.in_bounds.0
+    writing_more _ _ _ _ _ _ _ c.loop-p.invariant (omega arith) _ _ _ _ _ _ _ _ _ c.requires.map_value.0 c.requires.map_value.1 c.requires.in_bounds.0
     c.part_a-a.ensures c.bit-mark.ensures.0 c.from-h.ensures c.from.ensures c.round_mate-q.ensures c.after.ensures.0 c.after.ensures.1 refl
 
 pub returns : goal.returns

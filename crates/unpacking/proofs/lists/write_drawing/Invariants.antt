@@ -3,4 +3,4 @@ use Rattle.unpacking.proofs.Written.{Writing}
 use Rattle.unpacking.proofs.lists.write_drawing.Given as goal
 
 abbrev pub invariant-loop-p : goal.invariant-loop-p
-invariant-loop-p l = Writing l.map l.initial.turning l.initial.marks l.n l.p l.turning l.marks
+invariant-loop-p l = Writing l.map.bytes.now l.initial.turning l.initial.marks l.n l.p l.turning l.marks
