@@ -5,7 +5,6 @@
 use mathlib.Core.Path.{◌≡◌, sym}
 use Prim.Native.Nat.{ℕ, ◌+◌, ◌-◌, ◌%◌}
 use native.Mathlib.Omega.{arith}
-use borrow.Author.Rules.{rules}
 use Rattle.drawing.specs.Drawing.{other}
 use Rattle.drawing.proofs.Ends.{across}
 
@@ -14,5 +13,3 @@ other_even_is h e = sym ((across h).even e)
 
 pub other_odd_is : (h : ℕ) → (h % 2 ≡ 0 → ⊥) → h - 1 ≡ other h
 other_odd_is h n = let o : h % 2 ≡ 1 = omega arith in omega (arith, (across h).odd o)
-
-pub ruleset other_all = (other_even_is, other_odd_is, rules)

@@ -10,7 +10,6 @@ use mathlib.Core.Bool.{Bool, true, false}
 use mathlib.Core.List.{List}
 use Prim.Native.Nat.{ℕ, ◌+◌, ◌*◌, ◌<◌, ◌≤◌, max}
 use native.Mathlib.Omega.{arith}
-use borrow.Author.Rules.{rules}
 use borrow.Author.Tests.{eq-eqb, ne_eqb, eqb-true}
 use lib.Dec.{eqb}
 use lib.ListN.{length, get_or}
@@ -110,5 +109,3 @@ module _ (ms : List ℕ) where
   marked_end e k M l ts s =
       let h : e ≡ length ms = omega (arith, M.within) in
       rw h at M.so_far
-
-pub ruleset count_marks_all = (marked_end, rules)

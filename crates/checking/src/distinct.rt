@@ -16,6 +16,7 @@ pub fn is_distinct(turning: &[u16], work: &mut [u16]) -> bool
 }
 
 // Flags each entry, up to the first that is flagged already. Whether there was none.
+#[tactic(auto, using(crate::proofs::Seen::seen_start, crate::proofs::Seen::seen_room, crate::proofs::Seen::seen_twice, crate::proofs::Seen::seen_kept, crate::proofs::Seen::seen_more, crate::proofs::Seen::seen_all))]
 fn flag_entries(turning: &[u16], work: &mut [u16]) -> bool
     requires { Ranged turning.now × Blank (3 * length turning.now) work.old }
     ensures decides { Decides result (Differ turning.now) }

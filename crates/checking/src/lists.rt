@@ -47,6 +47,7 @@ pub fn entries_fit(turning: &[u16]) -> bool
 }
 
 // How many borders are marked.
+#[tactic(auto, using(crate::proofs::Scans::marked_start, crate::proofs::Scans::marked_end))]
 pub fn count_marks(marks: &[u8]) -> usize
     ensures by_index { (ts : List ℕ) (s : ℕ) → result ≡ mark_count (lent ts marks.now s) }
     ensures upper_bound { result ≤ length marks.now }

