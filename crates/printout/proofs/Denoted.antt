@@ -12,8 +12,11 @@ use Prim.Native.Nat.{ℕ, ◌*◌, ◌≤◌}
 use native.Mathlib.Omega.{arith}
 use lib.ListN.{length, take, drop, length-append}
 use lib.Seq.{take_at}
-use Rattle.answers.specs.Answer.{told, Answer, answer, refused_with, refused}
+use Rattle.answers.specs.Answer.{told, Answer, answer, refused_with}
 use Rattle.answers.specs.Lent.{laid, leaves}
+use Rattle.answers.specs.Means.{number, carried, parsed_means}
+use Rattle.answers.specs.declared.refusal.Refusal.{Refusal}
+use Rattle.std.specs.Prelude.{Result, Ok, Err}
 use Rattle.drawing.specs.Drawing.{Drawing, borders, lent}
 use Rattle.text.specs.Input.{Denotes, read_text}
 use Rattle.text.specs.Listing.{refused_line, listed, packed, places_of}
@@ -45,8 +48,9 @@ module _ (s t k t' k' : List ℕ) (m : ℕ) where
       }
   read_as (refused_with j xs) r e ht hk = let z : ◌≡◌ {A = ℕ} 0 1 = cc in absurd (omega arith)
 
-  pub read_denoted : answer m ≡ told borders (read_text s) → t' ≡ leaves (λ (D : Drawing). laid D.turning) (read_text s) t → k' ≡ leaves (λ (D : Drawing). laid D.marks) (read_text s) k → Denoted s m t' k'
-  read_denoted e ht hk = read_as (read_text s) refl e ht hk
+  pub read_denoted : (r : Result ℕ Refusal) → r ≡ Ok m → parsed_means r ≡ told borders (read_text s) → t' ≡ leaves (λ (D : Drawing). laid D.turning) (read_text s) t
+      → k' ≡ leaves (λ (D : Drawing). laid D.marks) (read_text s) k → Denoted s m t' k'
+  read_denoted r i e ht hk = read_as (read_text s) refl (sym (ap parsed_means i) ∙ e) ht hk
 
 pub denoted_printed : (s t k : List ℕ) (m : ℕ) → Denoted s m t k → places_of s ≡ listed (packed (answer (lent (take (2 * m) t) (take m k) 0)))
 unfolding places_of
@@ -56,9 +60,10 @@ declined_is : (k : ℕ) (xs : List ℕ) (a : Answer Drawing) → refused_with k 
 declined_is k xs (answer D) e = let z : ◌≡◌ {A = ℕ} 0 1 = cc in absurd (omega arith)
 declined_is k xs (refused_with j ys) e = cc
 
-pub declined_printed : (s : List ℕ) (k : ℕ) (xs : List ℕ) → refused_with k xs ≡ told borders (read_text s) → places_of s ≡ refused_line k
+pub declined_printed : (s : List ℕ) (r : Result ℕ Refusal) (x : Refusal) (k : ℕ) → r ≡ Err x → k ≡ number x → parsed_means r ≡ told borders (read_text s) → places_of s ≡ refused_line k
 unfolding places_of listed packed
-declined_printed s k xs e = ap (λ a. listed (packed a)) (declined_is k xs (read_text s) e)
+declined_printed s r x k i n e =
+    ap (λ a. listed (packed a)) (declined_is (number x) (carried x) (read_text s) (sym (ap parsed_means i) ∙ e)) ∙ ap refused_line (sym n)
 
 pub places_within : (s old new : List ℕ) (r : ℕ) → Stands (places_of s) r old new → r ≤ length new
 places_within s old new r S = stands_within old new r (places_of s) S

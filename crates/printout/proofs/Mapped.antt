@@ -7,7 +7,7 @@
 -- Assumes nothing.
 use mathlib.Core.Path.{◌≡◌, refl, sym, ap, ◌∙◌}
 use mathlib.Core.Bool.{true}
-use mathlib.Core.List.{List, [], ◌∷◌}
+use mathlib.Core.List.{List}
 use Prim.Native.Nat.{ℕ, ◌*◌, ◌≤◌}
 use native.Mathlib.Omega.{arith}
 use lib.Dec.{leb}
@@ -83,5 +83,5 @@ module _ (D : Drawing) (work out : ℕ) (long : 12288 ≤ work) (wide : longest 
   unfolding listed
   refusal_prints k xs f = ap listed (sym (room_enough D work out long wide) ∙ declined k xs (pack_of D work out) f)
 
-  pub declined_prints : (k : Refusal) → r ≡ Err k → listed (packed (answer D)) ≡ refused_line (number k)
-  declined_prints k h = refusal_prints (number k) (carried k) (sym (ap packed_means h) ∙ e)
+  pub declined_prints : (x : Refusal) (k : ℕ) → r ≡ Err x → k ≡ number x → listed (packed (answer D)) ≡ refused_line k
+  declined_prints x k h n = refusal_prints (number x) (carried x) (sym (ap packed_means h) ∙ e) ∙ ap refused_line (sym n)

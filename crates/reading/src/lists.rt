@@ -13,7 +13,11 @@ use answers::Refusal;
 use format::{MOST_BORDERS, MOST_ENDS};
 
 // Writes the drawing of the text and answers m, or declines with 17.
-pub fn parse(text: &[u8], turning: &mut [u16; MOST_ENDS], marks: &mut [u8; MOST_BORDERS]) -> Result<usize, Refusal>
+pub fn parse(
+    text: &[u8],
+    turning: &mut [u16; MOST_ENDS],
+    marks: &mut [u8; MOST_BORDERS],
+) -> Result<usize, Refusal>
     ensures result_value { parsed_means result ≡ told borders (read_text text.now) }
     ensures turning_after { turning.new ≡ leaves (λ (D : Drawing). laid D.turning) (read_text text.now) turning.old }
     ensures marks_after { marks.new ≡ leaves (λ (D : Drawing). laid D.marks) (read_text text.now) marks.old }

@@ -30,6 +30,6 @@ returns-in-Ok c =
 pub returns-in-Err : goal.returns-in-Err
 returns-in-Err c =
     let t =
-    stands_as _ _ _ _ _ (declined_prints (lent c.args.turning.now c.args.marks.now 0) _ _ (omega arith) (omega arith) c.pack.result c.pack.ensures.answers _ c.in-Err.is)
+    stands_as _ _ _ _ _ (declined_prints (lent c.args.turning.now c.args.marks.now 0) _ _ (omega arith) (omega arith) c.pack.result c.pack.ensures.answers _ _ c.in-Err.is c.from.ensures)
     (c.refused.ensures.value, c.refused.ensures.out_after) in
     record { value = t.0; out_after = t.1 }
