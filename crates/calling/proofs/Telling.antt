@@ -1,24 +1,21 @@
 -- What one call of a session gives, on bytes that open.
 --
--- area_code    == the code of an area
 -- call_inside, call_outside == a call at a place answers what the word does, and at another number 13
 -- place_at     == a place has a position
 -- tells_no_place, tells_past, tells_inside == what `tell` returns: at 0, past the last place, and at a place
--- entry_signed, entry_turn, turn_small == the entry of a turn, and what is asked for it
+-- entry_signed == the entry of a turn that has gone round
 -- entry_fits_lem   == an entry fits 16 bits
 -- value_fits   == the number that a call answers leaves bit 15 free
--- found_cross, found_turn, found_turn_back, found_along, found_point, found_area == what `found_at` returns for each code
+-- found_cross, found_turn, found_turn_back, found_along, found_point, found_area == what `found_at` returns for each call
 -- Assumes nothing.
 use mathlib.Core.Path.{◌≡◌, refl, sym, ap, ◌∙◌}
 use mathlib.Core.Bool.{Bool, true, false}
 use mathlib.Core.List.{List}
 use Prim.Native.Nat.{ℕ, pred, ◌+◌, ◌-◌, ◌<◌, ◌≤◌}
 use native.Mathlib.Omega.{arith}
-use borrow.Author.Tests.{ne_eqb}
 use Rattle.count.specs.Below.{pick}
 use Rattle.count.proofs.Logic.{pick_yes}
-use Rattle.answers.specs.Answer.{Answer, answer, refused, number_of, value_of, Reply, unsigned}
-use Rattle.answers.specs.declared.numbers.Place.{Place}
+use Rattle.answers.specs.Answer.{answer, refused, value_of, Reply, unsigned}
 use Rattle.answers.specs.declared.numbers.Point.{Point}
 use Rattle.answers.specs.declared.numbers.Area.{Area}
 use Rattle.words.specs.Brackets.{step, number}
@@ -29,21 +26,19 @@ use Rattle.format.specs.Bytes.{size_in, bits_a, word_in}
 use Rattle.format.specs.Open.{open_refusal}
 use Rattle.format.specs.Calls.{move_in, sign_in, reply_in, map_answer}
 use Rattle.format.proofs.Small.{move_small}
-use Rattle.format.specs.Sessions.{call_of, gone_round_bit, entry_of}
+use Rattle.format.specs.Sessions.{gone_round_bit, entry_of}
 use Rattle.format.proofs.Places.{at_place_lem, at_none, call_opens}
 use Rattle.walking.specs.Positions.{Position}
 use Rattle.answers.specs.Means.{turn_reply}
 use Rattle.answers.specs.declared.given.Turn.{Turn}
 use Rattle.walking.proofs.Decoded.{places_most}
 use Rattle.surveying.specs.Surveyed.{Surveyed}
+use Rattle.calling.specs.Codes.{meant}
+use Rattle.calling.specs.declared.codes.Call as code
 use Rattle.calling.specs.Told.{found_reply, place_from, Finds, Gives}
 use Rattle.calling.specs.declared.calls.Found.{Found}
-use Rattle.calling.specs.declared.calls.Told.{Told}
-
--- ---- codes
-area_code : (k : ℕ) → (k ≡ 0 → ⊥) → (k ≡ 1 → ⊥) → (k ≡ 2 → ⊥) → (k ≡ 3 → ⊥) → (k ≡ 4 → ⊥) → call_of k ≡ Call.area
-unfolding call_of
-area_code k n0 n1 n2 n3 n4 = simp (ne_eqb k 0 n0, ne_eqb k 1 n1, ne_eqb k 2 n2, ne_eqb k 3 n3, ne_eqb k 4 n4)
+use Rattle.std.specs.Prelude.{Ok, Err}
+use Rattle.answers.specs.declared.refusal.Refusal.{Refusal}
 
 -- ---- a call at a number
 module _ (s : List ℕ) (o : open_refusal s ≡ 0) (c : Call) (i : ℕ) where
@@ -63,41 +58,25 @@ place_at s i n o m hn l =
     let k : 0 < i = omega arith in
     record { opens = o; below = omega arith; few = omega (arith, places_most s o) }
 
-refused_gives : (c : Call) (a : Answer Reply) (i : ℕ) (t : Told) → a ≡ refused 13 → t.status ≡ 13 → t.value ≡ 0 → t.place.0 ≡ i → Gives c a i t
-unfolding number_of value_of
-refused_gives c a i t e hs hv hp = rw e (record { status = hs; value = hv; place = hp })
+module _ (s ms rs ps : List ℕ) (S : Surveyed s ms rs ps) (c : Call) (i : ℕ) where
+  refused_here : (0 < i → i ≤ bits_a (size_in s) → ⊥) → Gives c (map_answer s c i) i (Err Refusal.NoPlace)
+  refused_here n = rw (call_outside s S.opens c i n) (record { means = refl; place = refl; fits = tt })
 
-module _ (s ms rs ps : List ℕ) (S : Surveyed s ms rs ps) (c : Call) (at : Place) where
-  abbrev i : ℕ
-  i = at.0
+  pub tells_no_place : i ≡ 0 → Gives c (map_answer s c i) i (Err Refusal.NoPlace)
+  tells_no_place e = refused_here (λ l h. omega arith)
 
-  module _ (t : Told) (hs : t.status ≡ 13) (hv : t.value ≡ 0) (hp : t.place ≡ at) where
-    refused_here : (0 < i → i ≤ bits_a (size_in s) → ⊥) → Gives c (map_answer s c at.0) at.0 t
-    refused_here n = refused_gives c (map_answer s c i) i t (call_outside s S.opens c i n) hs hv (ap (λ (p : Place). p.0) hp)
+  pub tells_past : (n : ℕ) → n ≡ bits_a (size_in s) → n < i → Gives c (map_answer s c i) i (Err Refusal.NoPlace)
+  tells_past n hn l = refused_here (λ g h. omega arith)
 
-    pub tells_no_place : at.0 ≡ 0 → Gives c (map_answer s c at.0) at.0 t
-    tells_no_place e = refused_here (λ l h. omega arith)
-
-    pub tells_past : (n : ℕ) → n ≡ bits_a (size_in s) → n < at.0 → Gives c (map_answer s c at.0) at.0 t
-    tells_past n hn l = refused_here (λ g h. omega arith)
-
-  pub tells_inside : (n : ℕ) (f : Found) (t : Told) → (at.0 ≡ 0 → ⊥) → n ≡ bits_a (size_in s) → at.0 ≤ n → Finds (word_in s) c (at.0 - 1) f
-      → t.status ≡ 0 → t.value ≡ entry_of (found_reply f) → t.place.0 ≡ place_from f at.0 → Gives c (map_answer s c at.0) at.0 t
-  unfolding number_of value_of
-  tells_inside n f t m hn l F hs hv hp =
+  pub tells_inside : (n : ℕ) (f : Found) → (i ≡ 0 → ⊥) → n ≡ bits_a (size_in s) → i ≤ n → Finds (word_in s) c (i - 1) f
+      → Gives c (map_answer s c i) i (Ok f)
+  tells_inside n f m hn l F =
       let e : map_answer s c i ≡ answer (found_reply f) = call_inside s S.opens c i (omega arith) (omega arith) ∙ ap answer (sym F.is) in
-      rw e (record { status = hs; value = hv; place = hp ∙ F.leads i })
+      rw e (record { means = refl; place = F.leads i; fits = F.fits })
 
 -- ---- the entry of a turn
 pub entry_signed : (t : Turn) → t.round ≡ true → t.place.0 + gone_round_bit ≡ entry_of (turn_reply t)
 entry_signed t e = sym (pick_yes t.round (t.place.0 + gone_round_bit) t.place.0 e)
-
-module _ (f : Found) (t : Turn) (e : f ≡ Found.Turned t) where
-  pub turn_small : (found_reply f).value < gone_round_bit → t.place.0 < gone_round_bit
-  turn_small h = rw e at h
-
-  pub entry_turn : (x : ℕ) → x ≡ entry_of (turn_reply t) → x ≡ entry_of (found_reply f)
-  entry_turn x h = rw e h
 
 pub entry_fits_lem : (r : Reply) (x : ℕ) → x ≡ entry_of r → r.value < gone_round_bit → x < 65536
 entry_fits_lem r x e h = rw e (go r.sign)
@@ -115,38 +94,32 @@ value_fits s c p r P e =
     = call_inside s P.opens c (p + 1) (omega arith) (omega (arith, P.below)) ∙ ap (λ q. answer (reply_in (word_in s) c q)) m ∙ ap answer (sym e) in
     rw h at (move_small s c (p + 1))
 
-module _ (s : List ℕ) (code p : ℕ) (P : Position s p) where
-  found_of : (c : Call) (f : Found) → call_of code ≡ c → found_reply f ≡ reply_in (word_in s) c p → ((q : ℕ) → place_from f q ≡ place_after c (answer (found_reply f)) q)
-      → Finds (word_in s) (call_of code) p f
-  found_of c f h e k =
-      record {
-        is = e ∙ ap (λ x. reply_in (word_in s) x p) (sym h);
-        leads = λ q. k q ∙ ap (λ x. place_after x (answer (found_reply f)) q) (sym h);
-        fits = value_fits s c p (found_reply f) P e;
-      }
+module _ (s : List ℕ) (p : ℕ) (P : Position s p) where
+  found_of : (c : Call) (f : Found) → found_reply f ≡ reply_in (word_in s) c p → ((q : ℕ) → place_from f q ≡ place_after c (answer (found_reply f)) q)
+      → Finds (word_in s) c p f
+  found_of c f e k = record { is = e; leads = k; fits = value_fits s c p (found_reply f) P e }
 
-  pub found_cross : (r : ℕ) → code ≡ 0 → r ≡ mate_in (word_in s) p → Finds (word_in s) (call_of code) p (Found.To (record { 0 = r + 1 }))
-  unfolding move_in sign_in call_of
-  found_cross r h e = found_of Call.cross (Found.To (record { 0 = r + 1 })) (ap call_of h) (ap unsigned (omega arith)) (λ q. refl)
+  module _ (k : code.Call) where
+    pub found_cross : (r : ℕ) → k ≡ code.Call.Cross → r ≡ mate_in (word_in s) p → Finds (word_in s) (meant k) p (Found.To (record { 0 = r + 1 }))
+    unfolding move_in sign_in
+    found_cross r h e = rw h (found_of Call.cross (Found.To (record { 0 = r + 1 })) (ap unsigned (omega arith)) (λ q. refl))
 
-  pub found_turn : (r : Turn) → code ≡ 1 → turn_reply r ≡ reply_in (word_in s) Call.turn p → Finds (word_in s) (call_of code) p (Found.Turned r)
-  unfolding call_of
-  found_turn r h e = found_of Call.turn (Found.Turned r) (ap call_of h) e (λ q. refl)
+    pub found_turn : (r : Turn) → k ≡ code.Call.Turn → turn_reply r ≡ reply_in (word_in s) Call.turn p → Finds (word_in s) (meant k) p (Found.Turned r)
+    found_turn r h e = rw h (found_of Call.turn (Found.Turned r) e (λ q. refl))
 
-  pub found_turn_back : (r : Turn) → code ≡ 2 → turn_reply r ≡ reply_in (word_in s) Call.turn_back p → Finds (word_in s) (call_of code) p (Found.Turned r)
-  unfolding call_of
-  found_turn_back r h e = found_of Call.turn_back (Found.Turned r) (ap call_of h) e (λ q. refl)
+    pub found_turn_back : (r : Turn) → k ≡ code.Call.TurnBack → turn_reply r ≡ reply_in (word_in s) Call.turn_back p
+        → Finds (word_in s) (meant k) p (Found.Turned r)
+    found_turn_back r h e = rw h (found_of Call.turn_back (Found.Turned r) e (λ q. refl))
 
-  pub found_along : (r : ℕ) → code ≡ 3 → r ≡ step (seen square (word_in s)) (bits_a (size_in s)) p
-      → Finds (word_in s) (call_of code) p (Found.To (record { 0 = r + 1 }))
-  unfolding move_in sign_in word_in call_of
-  found_along r h e = found_of Call.along (Found.To (record { 0 = r + 1 })) (ap call_of h) (ap unsigned (omega arith)) (λ q. refl)
+    pub found_along : (r : ℕ) → k ≡ code.Call.Along → r ≡ step (seen square (word_in s)) (bits_a (size_in s)) p
+        → Finds (word_in s) (meant k) p (Found.To (record { 0 = r + 1 }))
+    unfolding move_in sign_in word_in
+    found_along r h e = rw h (found_of Call.along (Found.To (record { 0 = r + 1 })) (ap unsigned (omega arith)) (λ q. refl))
 
-  pub found_point : (r : Point) → code ≡ 4 → r.0 ≡ number (seen round (word_in s)) p → Finds (word_in s) (call_of code) p (Found.About r)
-  unfolding move_in sign_in call_of
-  found_point r h e = found_of Call.point (Found.About r) (ap call_of h) (ap unsigned e) (λ q. refl)
+    pub found_point : (r : Point) → k ≡ code.Call.Point → r.0 ≡ number (seen round (word_in s)) p → Finds (word_in s) (meant k) p (Found.About r)
+    unfolding move_in sign_in
+    found_point r h e = rw h (found_of Call.point (Found.About r) (ap unsigned e) (λ q. refl))
 
-  pub found_area : (r : Area) → (code ≡ 0 → ⊥) → (code ≡ 1 → ⊥) → (code ≡ 2 → ⊥) → (code ≡ 3 → ⊥) → (code ≡ 4 → ⊥)
-      → r.0 ≡ number (seen square (word_in s)) p → Finds (word_in s) (call_of code) p (Found.On r)
-  unfolding move_in sign_in
-  found_area r n0 n1 n2 n3 n4 e = found_of Call.area (Found.On r) (area_code code n0 n1 n2 n3 n4) (ap unsigned e) (λ q. refl)
+    pub found_area : (r : Area) → k ≡ code.Call.Area → r.0 ≡ number (seen square (word_in s)) p → Finds (word_in s) (meant k) p (Found.On r)
+    unfolding move_in sign_in
+    found_area r h e = rw h (found_of Call.area (Found.On r) (ap unsigned e) (λ q. refl))

@@ -1,2 +1,3 @@
--- One call of a session: what it finds and gives.
+-- One call of a session: its code, what it finds and gives.
+pub mod Codes
 pub mod Told

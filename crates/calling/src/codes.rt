@@ -1,12 +1,34 @@
-// The codes of the calls, in the order in which document 01, "Moves", has them.
-pub const CROSS: u8 = 0;
+// The calls and their codes, in the order in which document 01, "Moves", has them.
+ghost use Rattle.calling.specs.Codes.{Reads};
 
-pub const TURN: u8 = 1;
+use answers::Refusal;
 
-pub const TURN_BACK: u8 = 2;
+#[derive(Clone, Copy, Debug, PartialEq, Eq)]
+pub enum Call {
+    Cross,
+    Turn,
+    TurnBack,
+    Along,
+    Point,
+    Area,
+}
 
-pub const ALONG: u8 = 3;
+// The call with a code; NoCall where no call has it.
+impl TryFrom<u8> for Call {
+    type Error = Refusal;
 
-pub const POINT: u8 = 4;
+    ghost try_from_gives = { λ code r. Reads code r };
 
-pub const AREA: u8 = 5;
+    #[tactic(auto, unfolding(format::specs::Sessions::call_of))]
+    fn try_from(code: u8) -> Result<Call, Refusal> {
+        match code {
+            0 => Ok(Call::Cross),
+            1 => Ok(Call::Turn),
+            2 => Ok(Call::TurnBack),
+            3 => Ok(Call::Along),
+            4 => Ok(Call::Point),
+            5 => Ok(Call::Area),
+            _ => Err(Refusal::NoCall),
+        }
+    }
+}

@@ -1,44 +1,45 @@
--- Whether each byte of a list is the code of a call: one pass.
+-- Whether each byte of a list is the code of a call.
 --
--- Passed ks i    == the codes before i are those of calls: what is left decides
--- passed_start, passed_more, passed_end, passed_not == the pass
+-- read_is      == a byte is the code of a call exactly if one is read from it
+-- Coded ks     == each is
+-- codes_same   == what decides that is `are_calls`
+-- code_read    == where each is, the call with the code at i is read
 -- Assumes nothing.
-use mathlib.Core.Path.{◌≡◌, refl, sym, ap, ◌∙◌}
-use mathlib.Core.Bool.{true, false, ◌&&◌}
-use mathlib.Core.List.{List}
-use Prim.Native.Nat.{ℕ, ◌+◌, ◌<◌, ◌≤◌}
-use native.Mathlib.Numerals.{add-one}
+use mathlib.Core.Path.{◌≡◌, refl, sym, ◌∙◌}
+use mathlib.Core.Bool.{Bool, true}
+use mathlib.Core.List.{List, [], ◌∷◌}
+use Prim.Native.Nat.{ℕ, zero, suc, ◌<◌}
 use native.Mathlib.Omega.{arith}
-use borrow.Author.Tests.{le-leb, lt-leb}
-use lib.ListN.{length, get_or, drop, drop_of_length-le}
-use lib.Seq.{drop-cons}
+use lib.ListN.{length, get_or}
+use Rattle.std.specs.Prelude.{Result, Ok, Err, is_ok, IsOk}
+use Rattle.count.specs.Below.{Decides}
+use Rattle.count.proofs.Logic.{both, both_left, both_right, bool_same}
+use Rattle.answers.specs.declared.refusal.Refusal.{Refusal}
 use Rattle.format.specs.Sessions.{is_call, are_calls}
+use Rattle.calling.specs.Codes.{Reads}
+use Rattle.calling.specs.declared.codes.Call as code
 
-pub record Passed (ks : List ℕ) (i : ℕ) : Type 0 where
-  pub within : i ≤ length ks
-  pub rest : are_calls (drop i ks) ≡ are_calls ks
+pub record Coded (ks : List ℕ) : Type 0 where
+  pub each : (i : ℕ) → i < length ks → is_call (get_or ks i 0) ≡ true
 
--- the code at i, and the rest
-codes_from : (ks : List ℕ) (i : ℕ) → i < length ks → are_calls (drop i ks) ≡ (is_call (get_or ks i 0) && are_calls (drop (i + 1) ks))
+pub read_is : (k : ℕ) (r : Result code.Call Refusal) → Reads k r → is_ok r ≡ is_call k
+read_is k (Ok c) R = sym R.0
+read_is k (Err e) R = sym R.0
+
+coded_from : (ks : List ℕ) → are_calls ks ≡ true → (i : ℕ) → i < length ks → is_call (get_or ks i 0) ≡ true
 unfolding are_calls
-codes_from ks i l = rw (add-one, drop-cons ks i 0)
+coded_from [] e i l = absurd (omega (arith, l))
+coded_from (k ∷ ks) e zero l = both_left (is_call k) (are_calls ks) e
+coded_from (k ∷ ks) e (suc i) l = coded_from ks (both_right (is_call k) (are_calls ks) e) i (omega (arith, l))
+
+coded_all : (ks : List ℕ) → ((i : ℕ) → i < length ks → is_call (get_or ks i 0) ≡ true) → are_calls ks ≡ true
+unfolding are_calls
+coded_all [] C = refl
+coded_all (k ∷ ks) C = both (is_call k) (are_calls ks) (C 0 (omega arith)) (coded_all ks (λ i l. C (suc i) (omega (arith, l))))
 
 module _ (ks : List ℕ) where
-  pub passed_start : Passed ks 0
-  passed_start = record { within = omega arith; rest = refl }
+  pub codes_same : (t : Bool) → Decides t (Coded ks) → t ≡ are_calls ks
+  codes_same t d = bool_same t (are_calls ks) (λ h. coded_all ks (d.sound h).each) (λ h. d.complete (record { each = coded_from ks h }))
 
-  module _ (i : ℕ) (P : Passed ks i) where
-    pub passed_more : i < length ks → get_or ks i 0 ≤ 5 → Passed ks (i + 1)
-    passed_more l h =
-        record {
-          within = omega arith;
-          rest = ap (λ t. t && are_calls (drop (i + 1) ks)) (sym (le-leb (get_or ks i 0) 5 h)) ∙ sym (codes_from ks i l) ∙ P.rest;
-        }
-
-    pub passed_not : i < length ks → 5 < get_or ks i 0 → false ≡ are_calls ks
-    passed_not l h =
-        ap (λ t. t && are_calls (drop (i + 1) ks)) (sym (lt-leb (get_or ks i 0) 5 h)) ∙ sym (codes_from ks i l) ∙ P.rest
-
-    pub passed_end : length ks ≤ i → true ≡ are_calls ks
-    unfolding are_calls
-    passed_end l = ap are_calls (sym (drop_of_length-le ks l)) ∙ P.rest
+  pub code_read : (i : ℕ) (r : Result code.Call Refusal) → are_calls ks ≡ true → i < length ks → Reads (get_or ks i 0) r → IsOk r
+  code_read i r e l R = read_is (get_or ks i 0) r R ∙ coded_from ks e i l

@@ -5,7 +5,7 @@
 -- from s f p cs l i == l with f of each answer of the session cs from place p laid from entry i on
 -- Partway s first ks st₀ an₀ st an p i == the first i entries are written, p is the place after i calls, and the session of the calls
 --                that are left, from p, makes up the whole one
--- partway_start, partway_more, partway_end == the loop
+-- partway_start, partway_found, partway_refused, partway_end == the loop: from one call to the next by what it found, and where it is refused
 -- Assumes nothing.
 use mathlib.Core.Path.{◌≡◌, refl, sym, ap, ◌∙◌}
 use mathlib.Core.List.{List, [], ◌∷◌, ◌++◌, map}
@@ -20,8 +20,13 @@ use Rattle.drawing.specs.Session.{Call, place_after, session}
 use Rattle.format.specs.Calls.{map_answer, map_session}
 use Rattle.format.specs.Sessions.{call_of, calls_of, entry_of, statuses_of, values_of}
 use Rattle.sessions.specs.Runs.{Room, Leaves}
-use Rattle.calling.specs.Told.{Gives}
-use Rattle.calling.specs.declared.calls.Told.{Told}
+use Rattle.calling.specs.Codes.{meant, Reads}
+use Rattle.calling.specs.Told.{found_reply, place_from, place_left, Gives}
+use Rattle.calling.specs.declared.calls.Found.{Found}
+use Rattle.calling.specs.declared.codes.Call as code
+use Rattle.std.specs.Prelude.{Result, Ok, Err}
+use Rattle.answers.specs.declared.refusal.Refusal.{Refusal}
+use Rattle.answers.specs.Means.{means, number}
 
 laid_here : (x : ℕ) (xs st : List ℕ) (i : ℕ) → i < length st
     → take (i + 1) (set st i x) ++ laid xs (drop (i + 1) (set st i x)) ≡ take i st ++ laid (x ∷ xs) (drop i st)
@@ -67,6 +72,12 @@ abbrev entry : Answer Reply → ℕ
 entry a = value_of (told entry_of a)
 
 module _ (s : List ℕ) (first : ℕ) (ks st₀ an₀ : List ℕ) where
+  abbrev call_here : ℕ → Call
+  call_here i = call_of (get_or ks i 0)
+
+  abbrev answer_here : ℕ → ℕ → Answer Reply
+  answer_here p i = map_answer s (call_here i) p
+
   pub record Partway (st an : List ℕ) (p i : ℕ) : Type 0 where
     pub within : i ≤ length ks
     pub room : Room ks st₀ an₀
@@ -89,25 +100,48 @@ module _ (s : List ℕ) (first : ℕ) (ks st₀ an₀ : List ℕ) where
       }
 
   module _ (st an : List ℕ) (p i : ℕ) (R : Partway st an p i) where
-    pub partway_more : (t : Told) → i < length ks → Gives (call_of (get_or ks i 0)) (map_answer s (call_of (get_or ks i 0)) p) p t
-        → Partway (set st i t.status) (set an i t.value) t.place.0 (i + 1)
-    partway_more t l T =
-        let c : Call = call_of (get_or ks i 0) in
+    partway_more : (x y q : ℕ) → i < length ks → x ≡ number_of (answer_here p i) → y ≡ entry (answer_here p i) → q ≡ place_after (call_here i) (answer_here p i) p
+        → Partway (set st i x) (set an i y) q (i + 1)
+    partway_more x y q l hx hy hq =
+        let c : Call = call_here i in
         let cs : List Call = calls_of (drop (i + 1) ks) in
         let h : calls_of (drop i ks) ≡ c ∷ cs = codes_here ks i l in
         record {
           within = omega arith;
           room = R.room;
-          statuses_long = length-set st i t.status ∙ R.statuses_long;
-          answers_long = length-set an i t.value ∙ R.answers_long;
-          place = place_more s p c cs t.place.0 T.place ∙ ap (λ x. (map_session s p x).place) (sym h) ∙ R.place;
+          statuses_long = length-set st i x ∙ R.statuses_long;
+          answers_long = length-set an i y ∙ R.answers_long;
+          place = place_more s p c cs q hq ∙ ap (λ z. (map_session s p z).place) (sym h) ∙ R.place;
           statuses =
-              from_more s number_of p c cs st i t.status t.place.0 (omega (arith, R.room.statuses, R.statuses_long)) T.status T.place
-              ∙ ap (λ x. from s number_of p x st i) (sym h) ∙ R.statuses;
+              from_more s number_of p c cs st i x q (omega (arith, R.room.statuses, R.statuses_long)) hx hq
+              ∙ ap (λ z. from s number_of p z st i) (sym h) ∙ R.statuses;
           answers =
-              from_more s entry p c cs an i t.value t.place.0 (omega (arith, R.room.answers, R.answers_long)) T.value T.place
-              ∙ ap (λ x. from s entry p x an i) (sym h) ∙ R.answers;
+              from_more s entry p c cs an i y q (omega (arith, R.room.answers, R.answers_long)) hy hq
+              ∙ ap (λ z. from s entry p z an i) (sym h) ∙ R.answers;
         }
+
+    module _ (t : Result code.Call Refusal) (k : code.Call) (r : Result Found Refusal) (st' an' : List ℕ) (q : ℕ)
+        (l : i < length ks) (K : Reads (get_or ks i 0) t) (E : t ≡ Ok k) (G : Gives (meant k) (map_answer s (meant k) p) p r) where
+      meant_here : meant k ≡ call_here i
+      meant_here = (rw E at K).1
+
+      answered : means found_reply r ≡ answer_here p i
+      answered = G.means ∙ ap (λ c. map_answer s c p) meant_here
+
+      place_here : place_left r p ≡ place_after (call_here i) (answer_here p i) p
+      place_here = G.place ∙ ap (λ c. place_after c (map_answer s c p) p) meant_here
+
+      pub partway_found : (f : Found) → r ≡ Ok f → st' ≡ set st i 0 → (y : ℕ) → y ≡ entry_of (found_reply f) → an' ≡ set an i y → q ≡ place_from f p
+          → Partway st' an' q (i + 1)
+      unfolding number_of value_of
+      partway_found f o hs y hy ha hq =
+          rw (hs, ha) (partway_more 0 y q l (ap number_of (rw o at answered)) (hy ∙ ap entry (rw o at answered)) (hq ∙ rw o at place_here))
+
+      pub partway_refused : (e : Refusal) → r ≡ Err e → (x : ℕ) → x ≡ number e → st' ≡ set st i x → an' ≡ set an i 0 → q ≡ p
+          → Partway st' an' q (i + 1)
+      unfolding number_of value_of
+      partway_refused e o x hx hs ha hq =
+          rw (hs, ha) (partway_more x 0 q l (hx ∙ ap number_of (rw o at answered)) (ap entry (rw o at answered)) (hq ∙ rw o at place_here))
 
     none_left : length ks ≤ i → calls_of (drop i ks) ≡ []
     none_left l = ap calls_of (drop_of_length-le ks l)

@@ -1,20 +1,21 @@
 // Whether bytes are codes of calls.
 ghost use Rattle.std.specs.Prelude.{◌≡◌};
-ghost use Rattle.format.specs.Sessions.{are_calls};
+ghost use Rattle.format.specs.Sessions.{is_call, are_calls};
 
-use calling::AREA;
-
+use calling::Call;
 
 // Whether each byte is the code of a call.
+#[tactic(auto, using(crate::proofs::Coded::codes_same))]
 pub fn are_calls(calls: &[u8]) -> bool
     ensures { result ≡ are_calls calls.now }
 {
-    let mut i = 0;
-    while i < calls.len() {
-        if AREA < calls[i] {
-            return false;
-        }
-        i += 1;
-    }
-    true
+    calls.iter().all(|&code| is_call(code))
+}
+
+// Whether a byte is the code of a call.
+#[tactic(auto, using(crate::proofs::Coded::read_is))]
+fn is_call(code: u8) -> bool
+    ensures { result ≡ is_call code }
+{
+    Call::try_from(code).is_ok()
 }

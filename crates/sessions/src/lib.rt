@@ -1,9 +1,8 @@
 // Whole sessions on a packed map, from raw bytes.
 //
 //     session   a first number and a list of calls: every answer in order, and the place left at the end
-//     CROSS, TURN, TURN_BACK, ALONG, POINT, AREA   the codes of the calls
 //
-// Conventions. A call is lent as its code, one byte. The first number is any number. For call i, entry i of
+// Conventions. A call is lent as its code, one byte (`Call` of the crate `calling`). The first number is any number. For call i, entry i of
 // `statuses` is 0 or the number of its refusal, entry i of `answers` its answer, with bit 15 where a turn has gone
 // round, and 0 where it is refused; the entries beyond the calls stay as they were. The whole session is declined
 // by opening's checks, where the bytes do not open, by 2, where a lent list is shorter than the list of calls, and
@@ -21,5 +20,4 @@
 mod codes;
 mod runs;
 
-pub use calling::{ALONG, AREA, CROSS, POINT, TURN, TURN_BACK};
 pub use runs::session;

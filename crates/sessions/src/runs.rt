@@ -1,16 +1,16 @@
 // A session: the checks, once, then one call after the other, with the place passed on.
-ghost use Rattle.std.specs.Prelude.{◌≡◌, length};
+ghost use Rattle.std.specs.Prelude.{◌≡◌, true, length};
 ghost use Rattle.answers.specs.Means.{place_means};
 ghost use Rattle.answers.specs.Answer.{told};
 ghost use Rattle.answers.specs.Lent.{laid, leaves};
 ghost use Rattle.drawing.specs.Session.{Outcome};
 ghost use Rattle.format.specs.Calls.{map_session};
-ghost use Rattle.format.specs.Sessions.{calls_of, ran_of, statuses_of, values_of};
+ghost use Rattle.format.specs.Sessions.{are_calls, calls_of, ran_of, statuses_of, values_of};
 ghost use Rattle.sessions.specs.Runs.{Room, Leaves};
 
 use crate::codes::are_calls;
 use answers::{Place, Refusal};
-use calling::tell;
+use calling::{Call, tell};
 use layout::bits_a;
 use opening::{OpenMap, open_map};
 use surveying::{Lists, Survey};
@@ -22,6 +22,7 @@ const FEW: usize = 16;
 const PLACES_A_CALL: usize = 40;
 
 // Runs the calls on the map, from the first number on.
+#[tactic(auto, using(answers::proofs::Passing::passed_up, opening::proofs::Passed::open_passes, crate::proofs::Checked::ran_declines, crate::proofs::Checked::ran_short_statuses, crate::proofs::Checked::ran_short_answers, crate::proofs::Checked::ran_no_call, crate::proofs::Checked::ran_answers), unfolding(answers::specs::Lent::leaves))]
 pub fn session(
     map: &[u8],
     first: Place,
@@ -48,33 +49,20 @@ pub fn session(
     if !are_calls(calls) {
         return Err(Refusal::NoCall);
     }
-    Ok(run_open(open, first, calls, statuses, answers))
-}
-
-// The calls on bytes that open: few walk through the bytes, many look up in lists of the whole map.
-fn run_open(
-    map: OpenMap<'_>,
-    first: Place,
-    calls: &[u8],
-    statuses: &mut [u8],
-    answers: &mut [u16],
-) -> Place
-    requires { Room calls.now statuses.old answers.old }
-    ensures { Leaves (map_session map.entry.bytes.now first.0 (calls_of calls.now))
-        result.0 statuses.old answers.old statuses.new answers.new }
-{
-    if is_short(map.bytes, calls) {
-        return run(&Survey::empty(map), first, calls, statuses, answers);
+    if is_short(map, calls) {
+        return Ok(run(&Survey::empty(open), first, calls, statuses, answers));
     }
-    run_surveyed(map, first, calls, statuses, answers)
+    Ok(run_surveyed(open, first, calls, statuses, answers))
 }
 
-// Whether a list of calls is short. The answers are the same either way.
+// Whether a list of calls is short: few calls walk through the bytes, many look up in lists of the whole map. The answers are the
+// same either way.
 fn is_short(map: &[u8], calls: &[u8]) -> bool {
     calls.len() < FEW + bits_a(map) / PLACES_A_CALL
 }
 
-// Many calls: the lists have room for a map of every size.
+// Many calls. A function of its own, and not inlined, so that the lists are not on the stack of a short session.
+#[inline(never)]
 fn run_surveyed(
     map: OpenMap<'_>,
     first: Place,
@@ -82,7 +70,8 @@ fn run_surveyed(
     statuses: &mut [u8],
     answers: &mut [u16],
 ) -> Place
-    requires { Room calls.now statuses.old answers.old }
+    requires room { Room calls.now statuses.old answers.old }
+    requires codes { are_calls calls.now ≡ true }
     ensures { Leaves (map_session map.entry.bytes.now first.0 (calls_of calls.now))
         result.0 statuses.old answers.old statuses.new answers.new }
 {
@@ -90,7 +79,9 @@ fn run_surveyed(
     run(&lists.survey(map), first, calls, statuses, answers)
 }
 
-// The calls in order: "It holds one number, the place".
+// The calls in order: "It holds one number, the place". The lists are written by their index: of what is written through a zip of
+// `iter_mut` a proof knows nothing.
+#[tactic(auto, using(crate::proofs::Passing::partway_start, crate::proofs::Coded::code_read, crate::proofs::Passing::partway_end))]
 fn run(
     survey: &Survey,
     first: Place,
@@ -98,16 +89,25 @@ fn run(
     statuses: &mut [u8],
     answers: &mut [u16],
 ) -> Place
-    requires { Room calls.now statuses.old answers.old }
+    requires room { Room calls.now statuses.old answers.old }
+    requires codes { are_calls calls.now ≡ true }
     ensures { Leaves (map_session survey.now.map.now first.0 (calls_of calls.now))
         result.0 statuses.old answers.old statuses.new answers.new }
 {
     let mut place = first;
-    for i in 0..calls.len() {
-        let told = tell(survey, calls[i], place);
-        statuses[i] = told.status;
-        answers[i] = told.value;
-        place = told.place;
+    for (i, &code) in calls.iter().enumerate() {
+        let call = Call::try_from(code).unwrap();
+        match tell(survey, call, place) {
+            Ok(found) => {
+                statuses[i] = 0;
+                answers[i] = found.entry();
+                place = found.place_after(place);
+            }
+            Err(e) => {
+                statuses[i] = u8::from(e);
+                answers[i] = 0;
+            }
+        }
     }
     place
 }
