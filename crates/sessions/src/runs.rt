@@ -22,7 +22,7 @@ const FEW: usize = 16;
 const PLACES_A_CALL: usize = 40;
 
 // Runs the calls on the map, from the first number on.
-#[tactic(auto, using(answers::proofs::Passing::passed_up, opening::proofs::Passed::open_passes, crate::proofs::Checked::ran_declines, crate::proofs::Checked::ran_short_statuses, crate::proofs::Checked::ran_short_answers, crate::proofs::Checked::ran_no_call, crate::proofs::Checked::ran_answers), unfolding(answers::specs::Lent::leaves))]
+#[tactic(auto, using(answers::proofs::Passing::passed_up, crate::proofs::Checked::ran_declines, crate::proofs::Checked::ran_short_statuses, crate::proofs::Checked::ran_short_answers, crate::proofs::Checked::ran_no_call, crate::proofs::Checked::ran_answers), unfolding(answers::specs::Lent::leaves))]
 pub fn session(
     map: &[u8],
     first: Place,
