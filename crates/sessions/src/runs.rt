@@ -61,7 +61,7 @@ fn is_short(map: &[u8], calls: &[u8]) -> bool {
     calls.len() < FEW + bits_a(map) / PLACES_A_CALL
 }
 
-// Many calls, on bytes that open. A function of its own, and not inlined, so that the lists are not on the stack of a short session.
+// Many calls. A function of its own, and not inlined, so that the lists are not on the stack of a short session.
 #[inline(never)]
 fn run_surveyed(
     map: OpenMap<'_>,
