@@ -1,5 +1,4 @@
 -- `unpacking::lists::unpack` meets its contract. Assumes nothing.
-use native.Mathlib.Omega.{arith}
 use Rattle.answers.proofs.Passing.{passed_up}
 use Rattle.unpacking.proofs.Answered.{unpack_declines, unpack_short_turning, unpack_short_marks, unpack_answers}
 use Rattle.unpacking.proofs.lists.unpack.Goals as goal
@@ -22,9 +21,6 @@ returns-then-marks-m c =
     unpack_short_marks c.args.map.now c.args.turning.now c.args.marks.now
     c.borders-m.result c.borders-m.ensures.0 c.in_ok-open.ensures.value c.if-marks-m.true in
     record { result_value = t.0; turning_after = t.1.0; marks_after = t.1.1 }
-
-pub write-requires : goal.write-requires
-write-requires c = (open_passes _ c.in_ok-check.ensures.value, omega (arith, c.borders-m.ensures.0, c.if-turning-m.false), omega (arith, c.borders-m.ensures.0, c.if-marks-m.false))
 
 pub returns : goal.returns
 returns c =
