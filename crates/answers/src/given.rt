@@ -9,7 +9,7 @@ pub struct Size {
     pub n: usize,
 }
 
-// Where a turn leads, and whether it has gone round.
+// Where a turn leads, and whether it has gone round: every turn has both, so that the sign is no case (document 02, 8/14).
 #[derive(Clone, Copy, Debug, PartialEq, Eq)]
 pub struct Turn {
     pub place: Place,

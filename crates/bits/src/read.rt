@@ -29,7 +29,8 @@ pub fn rank(s: &[u8], v: usize, i: usize) -> usize
     share(v, i, ones + ones_in_byte(s, e, i % 8))
 }
 
-// The position of the j-th bit, from 0, that is v among the first n; n where there is none.
+// The position of the j-th bit, from 0, that is v among the first n; n where there is none, as the definition `select`
+// has it.
 pub fn select(s: &[u8], v: usize, n: usize, j: usize) -> usize
     ensures { (result ≡ select v s.now n j) × (result ≤ n) }
 {

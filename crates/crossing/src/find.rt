@@ -1,4 +1,5 @@
-// Check 7: the first two unmarked borders that alternate in the tour.
+// Check 7: the first two unmarked borders that alternate in the tour. The working list is lent as one (document 01): `places` says
+// where its thirds begin.
 ghost use Rattle.std.specs.Prelude.{◌≡◌, ◌+◌, ◌*◌, ◌<◌, length, get_or};
 ghost use Rattle.drawing.specs.Checks.{crossing_in};
 ghost use Rattle.lending.specs.Lists.{Outside, Zeroed};

@@ -1,4 +1,5 @@
 // The header: "m, then n, each two bytes, low byte first"; then the count of areas. A byte past the end is read as 0.
+// Each of the three fields has a name, and what they share is le16.
 ghost use Rattle.std.specs.Prelude.{◌≡◌, ◌<◌};
 ghost use Rattle.format.specs.Bytes.{header, areas_of, size_in, written_areas, le16_at};
 

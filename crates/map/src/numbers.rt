@@ -1,4 +1,5 @@
-// Points and areas: their first places, how many places they have, and an area's neighbours.
+// Points and areas: their first places, how many places they have, and an area's neighbours. Two functions under four names, which
+// README and docs/ have: a point has a degree, an area has sides.
 ghost use Rattle.std.specs.Prelude.{◌≡◌};
 ghost use Rattle.answers.specs.Means.{place_means, count_means};
 ghost use Rattle.answers.specs.Answer.{Kind};
@@ -48,7 +49,7 @@ pub fn neighbours(map: &[u8], area: Area) -> Result<usize, Refusal>
     Ok(neighbours_at(map, area))
 }
 
-// The first place of a point or an area; an empty map has none.
+// The first place of a point or an area; an empty map has none: "Both are 0 if m = 0."
 fn first_of(map: &[u8], cell: Cell) -> Result<Place, Refusal>
     ensures { place_means result ≡ first_of map.now (kind_of cell) (number_of_cell cell) }
 {

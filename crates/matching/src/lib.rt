@@ -7,7 +7,8 @@
 //     Scan          the answer of ahead
 //
 // Conventions. Bit i is bit i % 8 of byte i / 8, the lowest first; 0 opens and 1 closes. Positions
-// count from 0. A bit past the end is 0. No function asks anything of its caller.
+// count from 0. A bit past the end is 0. The number of bits goes beside the bytes: it is not their length,
+// and the definitions take any. No function asks anything of its caller.
 //
 // The strings are B and B* of document 01, "Tour and packed map". The definitions that the contracts
 // cite are those of the crates `bits` and `words`; specs/Scans.antt says what a scan leaves. The laws

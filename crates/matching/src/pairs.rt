@@ -19,7 +19,7 @@ pub fn is_balanced(s: &[u8], n: usize) -> bool
 }
 
 // The position of the partner of bracket i: for an opening its closing before n, or n where there is
-// none; for a closing the innermost open bracket, or 0 where there is none.
+// none; for a closing the innermost open bracket, or 0 where there is none: as the definition `mate` has it.
 #[tactic(auto, using(crate::proofs::Partners::partner_far, crate::proofs::Partners::partner_ahead, crate::proofs::Partners::partner_behind))]
 pub fn partner(s: &[u8], n: usize, i: usize) -> usize
     ensures { result ≡ mate (brackets s.now) n i }
@@ -33,7 +33,7 @@ pub fn partner(s: &[u8], n: usize, i: usize) -> usize
     enclosing(s, i).saturating_sub(1)
 }
 
-// The innermost bracket that is open just before position i: 1 + its position; 0 where none is.
+// The innermost bracket that is open just before position i: 1 + its position; 0 where none is, as the definition `inner` has it.
 pub fn enclosing(s: &[u8], i: usize) -> usize
     ensures { (result ≡ inner (brackets s.now) i) × (result ≤ i) }
 {
@@ -48,7 +48,7 @@ pub fn enclosing(s: &[u8], i: usize) -> usize
     behind_bytes(s, k, w.depth).left
 }
 
-// The closing of the opening i, before n; n where there is none.
+// The closing of the opening i, before n; n where there is none, as the definition `closer` has it.
 #[tactic(auto, using(crate::proofs::Partners::left_most, crate::proofs::Partners::closing_is))]
 fn closing(s: &[u8], n: usize, i: usize) -> usize
     requires { (i < n) × (bit s.now i ≡ 0) }

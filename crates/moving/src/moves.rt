@@ -1,4 +1,5 @@
-// The four moves: from a place to a place.
+// The four moves: from a place to a place. Each is the check of its place and a function of `walking`; one function over the other
+// would be longer than the four.
 ghost use Rattle.std.specs.Prelude.{◌≡◌};
 ghost use Rattle.answers.specs.Means.{place_means, turn_means};
 ghost use Rattle.format.specs.Calls.{cross_of, turn_of, turn_back_of, along_of};

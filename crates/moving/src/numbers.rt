@@ -1,4 +1,4 @@
-// The point and the area of a place.
+// The point and the area of a place, which are of two types.
 ghost use Rattle.std.specs.Prelude.{◌≡◌};
 ghost use Rattle.answers.specs.Means.{point_means, area_means};
 ghost use Rattle.format.specs.Calls.{point_of, area_of};

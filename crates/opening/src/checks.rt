@@ -129,7 +129,8 @@ fn unused_a(map: &[u8]) -> bool
     bits::unused_zero(part_a(map), bits_a(map))
 }
 
-// Whether the unused bits of B or B* are 0.
+// Whether the unused bits of B or B* are 0. This and the next lend the same two things to a function each: one over the function
+// would be no shorter.
 fn unused_b(map: &[u8], family: Family) -> bool
     ensures { result ≡ unused_zero (part_b family map.now) (bits_b family (size_in map.now)) }
 {

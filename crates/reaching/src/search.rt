@@ -18,7 +18,8 @@ pub struct Reach {
 }
 
 // The search from end 0, over the borders that the marks lent allow. What is found of these borders holds whatever marks the
-// drawing has. Without borders there is one point, and no end.
+// drawing has. Without borders there is one point, and no end. The queue grows on the
+// way, so that the loop has no bound from the beginning.
 pub fn spread(turning: &[u16], marks: &[u8], work: &mut [u16]) -> Reach
     requires { Turns turning.now
         × (length turning.now ≡ 2 * borders_of turning.now)

@@ -2,6 +2,8 @@
 // they are the same in every line. Then the drawings of (a) to (c), which are accepted: 0.
 #![tactic(auto)]
 
+ghost use Rattle.std.specs.Prelude.{◌<◌, ◌^◌};
+
 use answers::{Area, Place, Point, Refusal};
 use format::LONGEST;
 use std::io;
@@ -18,13 +20,13 @@ fn main(rt: HostRuntime) -> io::Result<()> {
 
 // 1 to 7: packing.
 fn pack_rows(rt: &impl Print) -> io::Result<()> {
-    row(rt, 1, pack(&[0, 1, 2], &[1]))?;
-    row(rt, 2, pack_short(&[1, 0], &[0]))?;
-    row(rt, 3, pack(&[0, 2], &[1]))?;
-    row(rt, 4, pack(&[0, 0], &[1]))?;
-    row(rt, 5, pack(&[0, 1], &[0]))?;
-    row(rt, 6, pack(&[1, 0], &[1]))?;
-    row(rt, 7, pack(&[2, 3, 1, 0], &[0, 0]))
+    row(rt, 1, pack::<LONGEST>(&[0, 1, 2], &[1]))?;
+    row(rt, 2, pack::<SHORT>(&[1, 0], &[0]))?;
+    row(rt, 3, pack::<LONGEST>(&[0, 2], &[1]))?;
+    row(rt, 4, pack::<LONGEST>(&[0, 0], &[1]))?;
+    row(rt, 5, pack::<LONGEST>(&[0, 1], &[0]))?;
+    row(rt, 6, pack::<LONGEST>(&[1, 0], &[1]))?;
+    row(rt, 7, pack::<LONGEST>(&[2, 3, 1, 0], &[0, 0]))
 }
 
 // 21: finding marks, for two borders whose marks are 255 before. 4 comes before it; a border that is not marked joins its points.
@@ -36,82 +38,66 @@ fn marks_rows(rt: &impl Print) -> io::Result<()> {
 
 // 8, 20 and 9 to 12: opening. The count of areas is looked at before the length.
 fn open_rows(rt: &impl Print) -> io::Result<()> {
-    row(rt, 8, open(b"\x00\x00\x00\x00"))?;
-    row(rt, 8, open(b"\x00\x00\x00\x00\x02\x00"))?;
-    row(rt, 20, open(b"\x01\x00\x02\x00\x00\x00\x03\x02"))?;
-    row(rt, 20, open(b"\x01\x00\x02\x00\x00\x00\x03"))?;
-    row(rt, 9, open(b"\x00\x00\x01\x00\x01\x00\x05"))?;
-    row(rt, 10, open(b"\x01\x00\x02\x00\x01\x00\x07\x02"))?;
-    row(rt, 11, open(b"\x01\x00\x02\x00\x01\x00\x01\x02"))?;
-    row(rt, 12, open(b"\x01\x00\x02\x00\x01\x00\x03\x01"))
+    row(rt, 8, opening::open(b"\x00\x00\x00\x00"))?;
+    row(rt, 8, opening::open(b"\x00\x00\x00\x00\x02\x00"))?;
+    row(rt, 20, opening::open(b"\x01\x00\x02\x00\x00\x00\x03\x02"))?;
+    row(rt, 20, opening::open(b"\x01\x00\x02\x00\x00\x00\x03"))?;
+    row(rt, 9, opening::open(b"\x00\x00\x01\x00\x01\x00\x05"))?;
+    row(rt, 10, opening::open(b"\x01\x00\x02\x00\x01\x00\x07\x02"))?;
+    row(rt, 11, opening::open(b"\x01\x00\x02\x00\x01\x00\x01\x02"))?;
+    row(rt, 12, opening::open(b"\x01\x00\x02\x00\x01\x00\x03\x01"))
 }
 
 // 13 to 17: a place, a point, an area that is not there, a list that is too short, and a text whose first line is empty.
 fn call_rows(rt: &impl Print) -> io::Result<()> {
     let stub = b"\x01\x00\x02\x00\x01\x00\x03\x02";
-    row(rt, 13, number(map::cross(stub, Place(0))))?;
-    row(rt, 14, number(map::degree(stub, Point(0))))?;
-    row(rt, 15, number(map::sides(stub, Area(0))))?;
+    row(rt, 13, map::cross(stub, Place(0)))?;
+    row(rt, 14, map::degree(stub, Point(0)))?;
+    row(rt, 15, map::sides(stub, Area(0)))?;
     row(rt, 16, unpack_short(stub))?;
     row(rt, 17, parse(b"\nborder first second mark\n"))
 }
 
 // (a) the empty map, (b) a single border, (c) a loop.
 fn accepted(rt: &impl Print) -> io::Result<()> {
-    row(rt, 0, pack(&[], &[]))?;
-    row(rt, 0, pack(&[0, 1], &[1]))?;
-    row(rt, 0, pack(&[1, 0], &[0]))
+    row(rt, 0, pack::<LONGEST>(&[], &[]))?;
+    row(rt, 0, pack::<LONGEST>(&[0, 1], &[1]))?;
+    row(rt, 0, pack::<LONGEST>(&[1, 0], &[0]))
 }
 
-fn row(rt: &impl Print, number: u8, came: u8) -> io::Result<()> {
+// The number of a row, and that of the refusal that came, or 0 where there is an answer.
+fn row<T: Drop>(rt: &impl Print, number: u8, came: Result<T, Refusal>) -> io::Result<()> {
+    let came = match came {
+        Ok(_) => 0,
+        Err(e) => u8::from(e),
+    };
     println!(rt; "{number} {came}")
 }
 
-// The number of packing's refusal, or 0 where it accepts.
-fn pack(turning: &[u16], marks: &[u8]) -> u8 {
+// A drawing that starts at 0, packed into an output of ROOM bytes.
+fn pack<const ROOM: usize>(turning: &[u16], marks: &[u8]) -> Result<usize, Refusal>
+    requires { ROOM < 2 ^ 63 }
+{
     let mut work = [0u16; 12];
-    let mut out = [0u8; LONGEST];
-    pack_into(turning, marks, &mut work, &mut out)
+    let mut out = [0u8; ROOM];
+    packing::pack(turning, marks, 0, &mut work, &mut out)
 }
 
-// The same with an output that is one byte short.
-fn pack_short(turning: &[u16], marks: &[u8]) -> u8 {
-    let mut work = [0u16; 12];
-    let mut out = [0u8; SHORT];
-    pack_into(turning, marks, &mut work, &mut out)
-}
-
-fn pack_into(turning: &[u16], marks: &[u8], work: &mut [u16], out: &mut [u8]) -> u8 {
-    number(packing::pack(turning, marks, 0, work, out))
-}
-
-// The number of the refusal of finding marks, or 0 where they are found.
-fn suggest(turning: &[u16]) -> u8 {
+// Marks found for two borders whose marks are 255 before.
+fn suggest(turning: &[u16]) -> Result<(), Refusal> {
     let mut marks = [255u8; 2];
     let mut work = [0u16; 12];
-    number(suggesting::suggest(turning, &mut marks, &mut work))
+    suggesting::suggest(turning, &mut marks, &mut work)
 }
 
-fn open(map: &[u8]) -> u8 {
-    number(opening::open(map))
-}
-
-// The number of a refusal, or 0 where there is an answer.
-fn number<T: Drop>(a: Result<T, Refusal>) -> u8 {
-    match a {
-        Ok(_) => 0,
-        Err(e) => u8::from(e),
-    }
-}
-
-fn unpack_short(map: &[u8]) -> u8 {
+fn unpack_short(map: &[u8]) -> Result<usize, Refusal> {
     let mut turning = [0u16; 1];
     let mut marks = [0u8; 1];
-    number(unpacking::unpack(map, &mut turning, &mut marks))
+    unpacking::unpack(map, &mut turning, &mut marks)
 }
 
-fn parse(text: &[u8]) -> u8 {
+fn parse(text: &[u8]) -> Result<usize, Refusal> {
     let mut turning = [0u16; 4096];
     let mut marks = [0u8; 2048];
-    number(reading::parse(text, &mut turning, &mut marks))
+    reading::parse(text, &mut turning, &mut marks)
 }

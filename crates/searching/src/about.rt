@@ -23,7 +23,7 @@ const LEAST: usize = 12;
 // How many of many places are looked at before the map is surveyed.
 const FIRST: usize = 1;
 
-// Once round the point u, from its first place; an empty map has no place to start from.
+// Once round the point u, from its first place; an empty map has no place to start from. "It answers 0 if none does."
 pub fn join_at(map: &[u8], u: Point, v: Point) -> usize
     requires { Numbered map.now (Cell.Point u) }
     ensures { result ≡ joined_in map.now u.0 v.0 }

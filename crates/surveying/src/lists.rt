@@ -8,7 +8,7 @@ use opening::OpenMap;
 // The most places of a map.
 const MOST_PLACES: usize = 4096;
 
-// Room for the lists of the largest map, on the stack of whoever asks.
+// Room for the lists of the largest map, on the stack of whoever asks; it is lent and never copied.
 #[derive(Drop)]
 pub struct Lists {
     mates: [u16; MOST_PLACES],

@@ -82,7 +82,7 @@ impl<'a> Survey<'a> {
         self.mate(family, before(bits_a(self.map), p))
     }
 
-    // The point that position p is about.
+    // The point that position p is about. It and an area are of two types; what both are is `number_in`.
     pub fn point(&self, p: usize) -> Point
         requires { Position self.now.map.now p }
         ensures { result.0 ≡ number (seen round (word_in self.now.map.now)) p }

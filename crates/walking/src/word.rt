@@ -114,7 +114,7 @@ pub fn before(n: usize, p: usize) -> usize
     if p == 0 { n - 1 } else { p - 1 }
 }
 
-// The point that position p is about.
+// The point that position p is about. It and an area are of two types; what both are is `number_at`.
 pub fn point_of(map: &[u8], p: usize) -> Point
     requires { Position map.now p }
     ensures { result.0 ≡ number (seen round (word_in map.now)) p }
