@@ -2,8 +2,6 @@
 // they are the same in every line. Then the drawings of (a) to (c), which are accepted: 0.
 #![tactic(auto)]
 
-ghost use Rattle.std.specs.Prelude.{◌<◌, ◌^◌};
-
 use answers::{Area, Place, Point, Refusal};
 use format::LONGEST;
 use std::io;
@@ -20,13 +18,13 @@ fn main(rt: HostRuntime) -> io::Result<()> {
 
 // 1 to 7: packing.
 fn pack_rows(rt: &impl Print) -> io::Result<()> {
-    row(rt, 1, pack::<LONGEST>(&[0, 1, 2], &[1]))?;
-    row(rt, 2, pack::<SHORT>(&[1, 0], &[0]))?;
-    row(rt, 3, pack::<LONGEST>(&[0, 2], &[1]))?;
-    row(rt, 4, pack::<LONGEST>(&[0, 0], &[1]))?;
-    row(rt, 5, pack::<LONGEST>(&[0, 1], &[0]))?;
-    row(rt, 6, pack::<LONGEST>(&[1, 0], &[1]))?;
-    row(rt, 7, pack::<LONGEST>(&[2, 3, 1, 0], &[0, 0]))
+    row(rt, 1, pack(&[0, 1, 2], &[1], LONGEST))?;
+    row(rt, 2, pack(&[1, 0], &[0], SHORT))?;
+    row(rt, 3, pack(&[0, 2], &[1], LONGEST))?;
+    row(rt, 4, pack(&[0, 0], &[1], LONGEST))?;
+    row(rt, 5, pack(&[0, 1], &[0], LONGEST))?;
+    row(rt, 6, pack(&[1, 0], &[1], LONGEST))?;
+    row(rt, 7, pack(&[2, 3, 1, 0], &[0, 0], LONGEST))
 }
 
 // 21: finding marks, for two borders whose marks are 255 before. 4 comes before it; a border that is not marked joins its points.
@@ -60,9 +58,9 @@ fn call_rows(rt: &impl Print) -> io::Result<()> {
 
 // (a) the empty map, (b) a single border, (c) a loop.
 fn accepted(rt: &impl Print) -> io::Result<()> {
-    row(rt, 0, pack::<LONGEST>(&[], &[]))?;
-    row(rt, 0, pack::<LONGEST>(&[0, 1], &[1]))?;
-    row(rt, 0, pack::<LONGEST>(&[1, 0], &[0]))
+    row(rt, 0, pack(&[], &[], LONGEST))?;
+    row(rt, 0, pack(&[0, 1], &[1], LONGEST))?;
+    row(rt, 0, pack(&[1, 0], &[0], LONGEST))
 }
 
 // The number of a row, and that of the refusal that came, or 0 where there is an answer.
@@ -74,13 +72,11 @@ fn row<T: Drop>(rt: &impl Print, number: u8, came: Result<T, Refusal>) -> io::Re
     println!(rt; "{number} {came}")
 }
 
-// A drawing that starts at 0, packed into an output of ROOM bytes.
-fn pack<const ROOM: usize>(turning: &[u16], marks: &[u8]) -> Result<usize, Refusal>
-    requires { ROOM < 2 ^ 63 }
-{
+// A drawing that starts at 0, packed into an output of so many bytes.
+fn pack(turning: &[u16], marks: &[u8], room: usize) -> Result<usize, Refusal> {
     let mut work = [0u16; 12];
-    let mut out = [0u8; ROOM];
-    packing::pack(turning, marks, 0, &mut work, &mut out)
+    let mut out = [0u8; LONGEST];
+    packing::pack(turning, marks, 0, &mut work, &mut out[..room.min(LONGEST)])
 }
 
 // Marks found for two borders whose marks are 255 before.
