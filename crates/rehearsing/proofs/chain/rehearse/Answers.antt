@@ -14,6 +14,14 @@ slice_bounds-session-end c =
     = record { packs = c.pack.ensures } in
     map_within P _ c.in_ok-length.was
 
+pub slice_bounds-session-end-2 : goal.slice_bounds-session-end-2
+slice_bounds-session-end-2 c =
+    let P : Packing (lent c.args.turning.now c.args.marks.now c.args.start)
+    (record { work = c.args.work.now; out = c.args.out.now; statuses = c.args.statuses.now; answers = c.args.answers.now })
+    c.pack.new.work c.pack.new.out c.pack.result
+    = record { packs = c.pack.ensures } in
+    sym (length-take-le c.in_ok-length.length c.pack.new.out (map_within P _ c.in_ok-length.was))
+
 pub returns : goal.returns
 returns c =
     let P : Packing (lent c.args.turning.now c.args.marks.now c.args.start)
