@@ -25,7 +25,8 @@ pub fn schedule(map: &[u8], out: &mut [u8; ROOM]) -> usize
     }
 }
 
-// The line of refusal k. Its length.
+// The line of refusal k. Its length. A function beside `printing::refused`, since that one asks for the room of a line and this, a name
+// of docs/AUDIT.md, asks nothing.
 pub fn refused(k: u8, out: &mut [u8; ROOM]) -> usize
     ensures value { result ≡ length (refused_line k) }
     ensures out_after { out.new ≡ laid (refused_line k) out.old }
