@@ -15,6 +15,7 @@ use walking::{after, before, mate_at, number_at, own_mate_at};
 use words::Family;
 
 // A map that opens and its lists: what they have for a place is its mate, its area and its point.
+// A position is asked for as a number: a struct of it and a map would have to say that the map is the survey's.
 #[derive(Clone, Copy)]
 pub struct Survey<'a> {
     pub map: &'a [u8],

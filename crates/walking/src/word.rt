@@ -14,6 +14,9 @@ use layout::{bits_a, bits_b, family_bit, part_a, part_b};
 use opening::Cell;
 use words::Family;
 
+// A position is a number beside its map, and no struct of both: the contracts get longer, as each answer has to say that its map is
+// the same, and a place checked into such a struct makes the six single calls up to 5 % slower, as measured in instructions.
+
 // The family of the bracket at position p.
 #[tactic(auto, using(crate::proofs::Walks::family_round, crate::proofs::Walks::family_square))]
 pub fn family_at(map: &[u8], p: usize) -> Family
