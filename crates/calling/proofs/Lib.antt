@@ -1,2 +1,3 @@
 -- One call of a session: laws.
 pub mod Telling
+pub mod Coded

@@ -2,7 +2,7 @@
 ghost use Rattle.std.specs.Prelude.{◌≡◌};
 ghost use Rattle.format.specs.Bytes.{word_in};
 ghost use Rattle.format.specs.Calls.{map_answer};
-ghost use Rattle.format.specs.Sessions.{entry_of};
+ghost use Rattle.format.specs.Sessions.{call_of, entry_of};
 ghost use Rattle.walking.specs.Positions.{Position};
 ghost use Rattle.answers.specs.Means.{turn_reply};
 ghost use Rattle.calling.specs.Codes.{meant};
@@ -15,7 +15,7 @@ use surveying::Survey;
 use walking::{turn_back_to, turn_to};
 use words::Family;
 
-// What the sign adds to a place in the list of answers: bit 15.
+// What the sign adds to a place in the list of answers, which C reads: bit 15.
 const GONE_ROUND: usize = 32768;
 
 // What a call answers at a place: a move another place, a turn also whether it has gone round, the others its point or its area.
@@ -66,9 +66,18 @@ fn signed(turn: Turn) -> usize
     if turn.round { at.0 + GONE_ROUND } else { at.0 }
 }
 
-// One call at a place; NoPlace: "place not 1 to 2m".
+// One call at a place, by its code; a code of no call asks for the area. NoPlace: "place not 1 to 2m".
+#[tactic(auto, using(crate::proofs::Coded::call_read))]
+pub fn tell(survey: &Survey, code: u8, place: Place) -> Result<Found, Refusal>
+    ensures { Gives (call_of code) (map_answer survey.now.map.now (call_of code) place.0) place.0 result }
+{
+    let call = Call::try_from(code).unwrap_or(Call::Area);
+    tell_call(survey, call, place)
+}
+
+// The same by the call.
 #[tactic(auto, using(crate::proofs::Telling::tells_no_place, crate::proofs::Telling::tells_past, crate::proofs::Telling::place_at, crate::proofs::Telling::tells_inside))]
-pub fn tell(survey: &Survey, call: Call, place: Place) -> Result<Found, Refusal>
+fn tell_call(survey: &Survey, call: Call, place: Place) -> Result<Found, Refusal>
     ensures { Gives (meant call) (map_answer survey.now.map.now (meant call) place.0) place.0 result }
 {
     let i = place.0;

@@ -6,7 +6,7 @@
 //     give_size     m and n in two
 //     give_length   what packing returns, and its length
 //
-// Conventions. Each returns the status, 0 or the number of the check that declines. A refusal leaves the slots as they were. Slots
+// Conventions. Each returns the status, 0 or the number of the check that declines: a number, as C is returned it. A refusal leaves the slots as they were. Slots
 // of 16 bits are filled with numbers that fit: whoever calls has seen to it.
 //
 // The definitions that the contracts cite are those of the crate `answers`, specs/Lent, which says what memory holds after a call;

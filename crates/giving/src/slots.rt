@@ -8,7 +8,8 @@ ghost use Rattle.answers.specs.Lent.{leaves, itself};
 
 use answers::{Area, Place, Point, Refusal, Size, Turn};
 
-// What a call gives, as a slot of the type S has it.
+// What a call gives, as a slot of the type S has it. One impl for each kind of number: a place never serves as a point or an area
+// number.
 pub trait Slotted<S> {
     ghost slotted: { Self → S };
 

@@ -32,7 +32,8 @@ pub fn land(map: &[u8], area: Area, list: &mut [u16]) -> usize
     }
 }
 
-// The areas across the sides of an area that has few, by walking through the bytes; None where it has more.
+// The areas across the sides of an area that has few, by walking through the bytes; None where it has more. The loop goes along a
+// walk, which ends where it returns.
 fn few_across(map: &[u8], area: Area, list: &mut [u16]) -> Option<usize>
     requires { Numbered map.now (Cell.Area area) × (16 ≤ length list.old) }
     ensures { IfSome result (λ c. Landed map.now area.0 c list.new) }

@@ -48,7 +48,8 @@ fn put_surveyed(survey: &Survey, page: &mut Page)
     }
 }
 
-// "the four kinds are ( ) for B and [ ] for B*". A says which of the two, and the next unread bit of that string whether it closes.
+// "the four kinds are ( ) for B and [ ] for B*". A says which of the two, and the next unread bit of that string whether it closes. Bits are
+// numbers, as `bits` answers them.
 #[tactic(auto, using(crate::proofs::Letters::kind_round_closes, crate::proofs::Letters::kind_round_opens, crate::proofs::Letters::kind_square_closes, crate::proofs::Letters::kind_square_opens))]
 fn kind_of(marked: usize, b: usize, c: usize) -> u8
     ensures { kind (letter_from marked b c) ≡ result ∷ [] }

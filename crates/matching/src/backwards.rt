@@ -1,4 +1,4 @@
-// Scanning backwards: closings wait, and an opening takes one.
+// Scanning backwards: closings wait, and an opening takes one. Not the scan forwards with a sign: a byte is read from its other end.
 ghost use Rattle.std.specs.Prelude.{◌≡◌, ◌+◌, ◌*◌, ◌^◌, ◌≤◌, ◌<◌, length};
 ghost use Rattle.matching.specs.Bytes.{entries};
 ghost use Rattle.matching.specs.Scans.{behind};

@@ -1,4 +1,4 @@
-// The unpaired brackets of a byte, for every byte.
+// The unpaired brackets of a byte, for every byte. The table is lent on, so that a scan makes it once.
 ghost use Rattle.std.specs.Prelude.{◌≡◌};
 ghost use Rattle.matching.specs.Bytes.{entries, Entry};
 

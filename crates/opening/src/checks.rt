@@ -17,7 +17,7 @@ use words::Family;
 // "Opening gives m and n", or the refusal of the check that declines. What it accepts is a byte string that opens.
 pub fn open(map: &[u8]) -> Result<Size, Refusal>
     ensures result_value { opened_means result ≡ open_of map.now }
-    ensures opens { (z : _) → open_of map.now ≡ answer z → Opens map.now }
+    ensures opens { (z : Size) → open_of map.now ≡ answer z → Opens map.now }
 {
     check(map)?;
     Ok(Size {

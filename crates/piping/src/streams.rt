@@ -36,7 +36,7 @@ pub fn print<O: Write, E: Write>(output: &mut O, errors: &mut E, text: &[u8], na
     }
 }
 
-// Reads until `bytes` is full, the input ends or a read fails. How many bytes were read.
+// Reads until `bytes` is full, the input ends or a read fails. How many bytes were read: a read may give any number of them.
 fn read_full<R: Read>(from: &mut R, bytes: &mut [u8]) -> usize
     ensures fits { result ≤ length bytes.new }
     ensures prefix_len { result ≡ length (take result bytes.new) }

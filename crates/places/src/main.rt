@@ -4,6 +4,7 @@
 
 ghost use Rattle.text.specs.Listing.{refused_line, places_of};
 
+use answers::Refusal;
 use piping::{Cut, Program, run};
 use printout::ROOM;
 
@@ -31,7 +32,7 @@ impl Program<ROOM> for Places {
     fn respond(text: &[u8], read: Result<usize, Cut>, out: &mut [u8; ROOM]) -> usize {
         match read {
             Ok(got) => printout::places(&text[..got], out),
-            Err(_) => listing::refused(17, out),
+            Err(_) => listing::refused(u8::from(Refusal::Text), out),
         }
     }
 }

@@ -40,7 +40,7 @@ impl Tariff<'_> {
         self.kinds[i] <= 2 && is_allowed(self.factor(Area(i + 1)))
     }
 
-    // What the lists say of an area. What its kind does not use is not read.
+    // What the lists say of an area. What its kind does not use is not read. A kind is a byte, as C lends it.
     #[tactic(auto, using(crate::proofs::Laws::at_own, crate::proofs::Laws::at_held, crate::proofs::Laws::at_unknown))]
     pub fn factor(&self, area: Area) -> Factor
         requires { InLists self.now.kinds.now self.now.values.now area.0 }

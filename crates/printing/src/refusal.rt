@@ -5,7 +5,7 @@ ghost use Rattle.text.specs.Listing.{refused_line};
 
 use crate::page::Page;
 
-// The line of refusal k. Its length.
+// The line of refusal k, which may be any number. Its length.
 pub fn refused(k: u8, out: &mut [u8]) -> usize
     requires { 13 ≤ length out.old }
     ensures value { result ≡ length (refused_line k) }

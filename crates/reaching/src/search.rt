@@ -77,7 +77,7 @@ fn may_cross(marks: &[u8], e: usize) -> bool
     e >= marks.len() || marks[e] == 1
 }
 
-// Flags and queues the ends of h's point, unless they are flagged already. The new length of the queue.
+// Flags and queues the ends of h's point, unless they are flagged already. The new length of the queue. The loop goes round a cycle.
 fn gather(turning: &[u16], work: &mut [u16], tail: usize, h: u16) -> usize
     requires { Turns turning.now
         × (h < length turning.now)

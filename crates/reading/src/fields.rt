@@ -32,7 +32,7 @@ fn number(text: &[u8], most: usize) -> Option<Field<'_>>
 }
 
 // The number x, followed by the digits that a text begins with, if it is at most `most`. It never gets smaller
-// by a digit more, so the first value above `most` decides.
+// by a digit more, so the first value above `most` decides. Where the digits end only reading them tells.
 fn digits(text: &[u8], x: usize, most: usize) -> Option<Field<'_>>
     requires { (most ≤ 65535) × (x ≤ 9) }
     ensures { field_means result ≡ within most (read_digits text.now x) }

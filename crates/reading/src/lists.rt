@@ -32,7 +32,7 @@ pub fn parse(
     Ok(m)
 }
 
-// How many lines of borders the text has, if it has nothing else.
+// How many lines of borders the text has, if it has nothing else. Where a line ends only reading it tells.
 fn count_lines(text: &[u8]) -> Option<usize>
     ensures { count_means result ≡ told borders (drawing_or17 (read_lines most_borders 0 text.now)) }
 {

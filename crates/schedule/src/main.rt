@@ -4,6 +4,7 @@
 ghost use Rattle.text.specs.Listing.{refused_line};
 ghost use Rattle.text.specs.Schedule.{schedule_of};
 
+use answers::Refusal;
 use format::LONGEST;
 use piping::{Cut, Program, run};
 use scheduling::ROOM;
@@ -32,7 +33,7 @@ impl Program<ROOM> for Schedule {
     fn respond(map: &[u8], read: Result<usize, Cut>, out: &mut [u8; ROOM]) -> usize {
         match read {
             Ok(got) => scheduling::schedule(&map[..got], out),
-            Err(_) => scheduling::refused(8, out),
+            Err(_) => scheduling::refused(u8::from(Refusal::Header), out),
         }
     }
 }

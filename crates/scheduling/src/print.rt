@@ -1,4 +1,4 @@
-// The whole text: a schedule, or the line of a refusal.
+// The whole text: a schedule, or the line of a refusal. It is put as a listing is; one function over what is put would be longer.
 ghost use Rattle.std.specs.Prelude.{◌≡◌, length};
 ghost use Rattle.answers.specs.Lent.{laid};
 ghost use Rattle.printing.specs.Writing.{Wrote};

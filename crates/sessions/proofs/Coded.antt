@@ -3,7 +3,6 @@
 -- read_is      == a byte is the code of a call exactly if one is read from it
 -- Coded ks     == each is
 -- codes_same   == what decides that is `are_calls`
--- code_read    == where each is, the call with the code at i is read
 -- Assumes nothing.
 use mathlib.Core.Path.{◌≡◌, refl, sym, ◌∙◌}
 use mathlib.Core.Bool.{Bool, true}
@@ -11,7 +10,7 @@ use mathlib.Core.List.{List, [], ◌∷◌}
 use Prim.Native.Nat.{ℕ, zero, suc, ◌<◌}
 use native.Mathlib.Omega.{arith}
 use lib.ListN.{length, get_or}
-use Rattle.std.specs.Prelude.{Result, Ok, Err, is_ok, IsOk}
+use Rattle.std.specs.Prelude.{Result, Ok, Err, is_ok}
 use Rattle.count.specs.Below.{Decides}
 use Rattle.count.proofs.Logic.{both, both_left, both_right, bool_same}
 use Rattle.answers.specs.declared.refusal.Refusal.{Refusal}
@@ -40,6 +39,3 @@ coded_all (k ∷ ks) C = both (is_call k) (are_calls ks) (C 0 (omega arith)) (co
 module _ (ks : List ℕ) where
   pub codes_same : (t : Bool) → Decides t (Coded ks) → t ≡ are_calls ks
   codes_same t d = bool_same t (are_calls ks) (λ h. coded_all ks (d.sound h).each) (λ h. d.complete (record { each = coded_from ks h }))
-
-  pub code_read : (i : ℕ) (r : Result code.Call Refusal) → are_calls ks ≡ true → i < length ks → Reads (get_or ks i 0) r → IsOk r
-  code_read i r e l R = read_is (get_or ks i 0) r R ∙ coded_from ks e i l

@@ -20,13 +20,11 @@ use Rattle.drawing.specs.Session.{Call, place_after, session}
 use Rattle.format.specs.Calls.{map_answer, map_session}
 use Rattle.format.specs.Sessions.{call_of, calls_of, entry_of, statuses_of, values_of}
 use Rattle.sessions.specs.Runs.{Room, Leaves}
-use Rattle.calling.specs.Codes.{meant, Reads}
-use Rattle.calling.specs.Told.{found_reply, place_from, place_left, Gives}
+use Rattle.calling.specs.Told.{found_reply, place_from, Gives}
 use Rattle.calling.specs.declared.calls.Found.{Found}
-use Rattle.calling.specs.declared.codes.Call as code
 use Rattle.std.specs.Prelude.{Result, Ok, Err}
 use Rattle.answers.specs.declared.refusal.Refusal.{Refusal}
-use Rattle.answers.specs.Means.{means, number}
+use Rattle.answers.specs.Means.{number}
 
 laid_here : (x : ℕ) (xs st : List ℕ) (i : ℕ) → i < length st
     → take (i + 1) (set st i x) ++ laid xs (drop (i + 1) (set st i x)) ≡ take i st ++ laid (x ∷ xs) (drop i st)
@@ -120,28 +118,18 @@ module _ (s : List ℕ) (first : ℕ) (ks st₀ an₀ : List ℕ) where
               ∙ ap (λ z. from s entry p z an i) (sym h) ∙ R.answers;
         }
 
-    module _ (t : Result code.Call Refusal) (k : code.Call) (r : Result Found Refusal) (st' an' : List ℕ) (q : ℕ)
-        (l : i < length ks) (K : Reads (get_or ks i 0) t) (E : t ≡ Ok k) (G : Gives (meant k) (map_answer s (meant k) p) p r) where
-      meant_here : meant k ≡ call_here i
-      meant_here = (rw E at K).1
-
-      answered : means found_reply r ≡ answer_here p i
-      answered = G.means ∙ ap (λ c. map_answer s c p) meant_here
-
-      place_here : place_left r p ≡ place_after (call_here i) (answer_here p i) p
-      place_here = G.place ∙ ap (λ c. place_after c (map_answer s c p) p) meant_here
-
+    module _ (r : Result Found Refusal) (st' an' : List ℕ) (q : ℕ) (l : i < length ks) (G : Gives (call_here i) (answer_here p i) p r) where
       pub partway_found : (f : Found) → r ≡ Ok f → st' ≡ set st i 0 → (y : ℕ) → y ≡ entry_of (found_reply f) → an' ≡ set an i y → q ≡ place_from f p
           → Partway st' an' q (i + 1)
       unfolding number_of value_of
       partway_found f o hs y hy ha hq =
-          rw (hs, ha) (partway_more 0 y q l (ap number_of (rw o at answered)) (hy ∙ ap entry (rw o at answered)) (hq ∙ rw o at place_here))
+          rw (hs, ha) (partway_more 0 y q l (ap number_of (rw o at G.means)) (hy ∙ ap entry (rw o at G.means)) (hq ∙ rw o at G.place))
 
       pub partway_refused : (e : Refusal) → r ≡ Err e → (x : ℕ) → x ≡ number e → st' ≡ set st i x → an' ≡ set an i 0 → q ≡ p
           → Partway st' an' q (i + 1)
       unfolding number_of value_of
       partway_refused e o x hx hs ha hq =
-          rw (hs, ha) (partway_more x 0 q l (hx ∙ ap number_of (rw o at answered)) (ap entry (rw o at answered)) (hq ∙ rw o at place_here))
+          rw (hs, ha) (partway_more x 0 q l (hx ∙ ap number_of (rw o at G.means)) (ap entry (rw o at G.means)) (hq ∙ rw o at G.place))
 
     none_left : length ks ≤ i → calls_of (drop i ks) ≡ []
     none_left l = ap calls_of (drop_of_length-le ks l)

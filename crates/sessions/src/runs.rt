@@ -1,16 +1,16 @@
 // A session: the checks, once, then one call after the other, with the place passed on.
-ghost use Rattle.std.specs.Prelude.{◌≡◌, true, length};
+ghost use Rattle.std.specs.Prelude.{◌≡◌, length};
 ghost use Rattle.answers.specs.Means.{place_means};
 ghost use Rattle.answers.specs.Answer.{told};
 ghost use Rattle.answers.specs.Lent.{laid, leaves};
 ghost use Rattle.drawing.specs.Session.{Outcome};
 ghost use Rattle.format.specs.Calls.{map_session};
-ghost use Rattle.format.specs.Sessions.{are_calls, calls_of, ran_of, statuses_of, values_of};
+ghost use Rattle.format.specs.Sessions.{calls_of, ran_of, statuses_of, values_of};
 ghost use Rattle.sessions.specs.Runs.{Room, Leaves};
 
 use crate::codes::are_calls;
 use answers::{Place, Refusal};
-use calling::{Call, tell};
+use calling::tell;
 use layout::bits_a;
 use opening::{OpenMap, open_map};
 use surveying::{Lists, Survey};
@@ -70,8 +70,7 @@ fn run_surveyed(
     statuses: &mut [u8],
     answers: &mut [u16],
 ) -> Place
-    requires room { Room calls.now statuses.old answers.old }
-    requires codes { are_calls calls.now ≡ true }
+    requires { Room calls.now statuses.old answers.old }
     ensures { Leaves (map_session map.entry.bytes.now first.0 (calls_of calls.now))
         result.0 statuses.old answers.old statuses.new answers.new }
 {
@@ -81,7 +80,7 @@ fn run_surveyed(
 
 // The calls in order: "It holds one number, the place". The lists are written by their index: of what is written through a zip of
 // `iter_mut` a proof knows nothing.
-#[tactic(auto, using(crate::proofs::Passing::partway_start, crate::proofs::Coded::code_read, crate::proofs::Passing::partway_end))]
+#[tactic(auto, using(crate::proofs::Passing::partway_start, crate::proofs::Passing::partway_end))]
 fn run(
     survey: &Survey,
     first: Place,
@@ -89,15 +88,13 @@ fn run(
     statuses: &mut [u8],
     answers: &mut [u16],
 ) -> Place
-    requires room { Room calls.now statuses.old answers.old }
-    requires codes { are_calls calls.now ≡ true }
+    requires { Room calls.now statuses.old answers.old }
     ensures { Leaves (map_session survey.now.map.now first.0 (calls_of calls.now))
         result.0 statuses.old answers.old statuses.new answers.new }
 {
     let mut place = first;
     for (i, &code) in calls.iter().enumerate() {
-        let call = Call::try_from(code).unwrap();
-        match tell(survey, call, place) {
+        match tell(survey, code, place) {
             Ok(found) => {
                 statuses[i] = 0;
                 answers[i] = found.entry();

@@ -5,15 +5,19 @@
 -- listed_size     == the degree of a point (the sides of an area): how many entries have its number
 -- listed_first    == its first position: the first entry that has its number
 -- listed_across   == the area (the point) across a place: the number at its mate
+-- early_is, early_full == a place that is found is the answer; it is found if all places may be looked at
 -- In turning order, or along the area's walk, its positions come in rising order (`walk_rises`, `walk_returns` of `words`).
 -- Assumes nothing.
-use mathlib.Core.Path.{◌≡◌, sym, ap, ◌∙◌}
+use mathlib.Core.Path.{◌≡◌, refl, sym, ap, ◌∙◌}
+use mathlib.Core.Bool.{false}
 use mathlib.Core.List.{List}
 use Prim.Native.Nat.{ℕ, ◌<◌, ◌≤◌}
 use native.Mathlib.Omega.{arith}
 use lib.Dec.{eqb}
 use lib.ListN.{length, get_or, drop, length-append, length-drop}
+use Rattle.std.specs.Prelude.{Option, Some, None, IsSome}
 use Rattle.count.specs.Below.{count, find, table}
+use Rattle.count.proofs.Logic.{true_not_false}
 use Rattle.count.proofs.Below.{count_same}
 use Rattle.count.proofs.Search.{find_same}
 use Rattle.count.proofs.Lists.{table_length}
@@ -26,7 +30,7 @@ use Rattle.words.proofs.Mates.{mate_in_below}
 use Rattle.format.specs.Bytes.{size_in, bits_a, word_in}
 use Rattle.format.specs.Open.{open_refusal}
 use Rattle.walking.proofs.Decoded.{nested, places_most}
-use Rattle.surveying.specs.Surveyed.{mates_in, numbers_in, Mates, Numbers}
+use Rattle.surveying.specs.Surveyed.{mates_in, numbers_in, Mates, Numbers, Early}
 
 module _ (s l old : List ℕ) where
   pub mates_are : l ≡ laid (mates_in s) old → Mates s l
@@ -80,3 +84,15 @@ module _ (s old l : List ℕ) (O : open_refusal s ≡ 0) (h : length old ≡ 409
   pub numbers_long : (K : Family) → l ≡ laid (numbers_in K s) old → 4096 ≡ length l
   unfolding numbers_in
   numbers_long K e = laid_long (number (seen K (word_in s))) e
+
+-- ---- a place that may be missing
+module _ (m n most x : ℕ) (r : Option ℕ) (hn : m ≡ n) (E : Early n most x r) where
+  pub early_is : (y : ℕ) → r ≡ Some y → y ≡ x
+  early_is y e = E.is y e
+
+  pub early_full : most ≡ m → r ≡ Some x
+  early_full e = full r refl (E.enough (omega arith))
+    where
+      full : (o : Option ℕ) → r ≡ o → IsSome o → r ≡ Some x
+      full (Some y) f h = f ∙ ap Some (E.is y f)
+      full None f h = absurd (true_not_false false h refl)

@@ -1,4 +1,4 @@
-// What the lists of a tally have for an area, looked up by its number.
+// What the lists of a tally have for an area, looked up by its number: a number of sides from the one, a place from the other.
 ghost use Rattle.std.specs.Prelude.{◌≡◌, ◌-◌, ◌<◌, ◌≤◌};
 ghost use Rattle.tallying.specs.Tallied.{entry_at, HasEntry};
 

@@ -1,4 +1,5 @@
-// The chart of a tour: the end at each position, and which positions are second places of their borders.
+// The chart of a tour: the end at each position, and which positions are second places of their borders. The working list is lent
+// as one (document 01): `places` says where its thirds begin.
 ghost use Rattle.std.specs.Prelude.{◌≡◌, List, ℕ, ◌*◌, ◌<◌, ◌≤◌, length};
 ghost use Rattle.drawing.specs.Drawing.{is_marked, over, lent};
 ghost use Rattle.drawing.specs.Checks.{LengthsFit, InRange};

@@ -1,5 +1,5 @@
 // Turn and turn back, from the position that a step leads to, wherever that was found. Round means beyond the point's last place,
-// or back beyond its first.
+// or back beyond its first: two functions, since each compares the other way.
 ghost use Rattle.std.specs.Prelude.{◌≡◌};
 ghost use Rattle.answers.specs.Means.{turn_reply};
 ghost use Rattle.words.specs.Brackets.{step, back};
