@@ -7,7 +7,7 @@
 -- length_small, pair_small, pack_small == the numbers in such a case fit: a length its cell, two borders their bits
 -- returned_read  == what is returned for a case is read as its number and the numbers it carries
 -- pack_returns   == what is returned, and left in the memory lent, is what the contract says
--- unpack_small   == m fits its cell
+-- unpack_small, unpack_fits == m fits its cell
 -- unpack_status  == what is returned is the number of unpacking's answer
 -- Assumes nothing.
 use mathlib.Core.Path.{◌≡◌, refl, sym, ap, ◌∙◌}
@@ -24,9 +24,9 @@ use Rattle.count.proofs.Logic.{true_or_false}
 use Rattle.answers.specs.Checks.{check}
 use Rattle.answers.proofs.Steps.{stops_at, number_after, by_numbers, none_append, by_checks, answered_all, told_answered}
 use Rattle.answers.specs.Answer.{Answer, answer, refused_with, refused, number_of, carried_by, value_of, told}
-use Rattle.std.specs.Prelude.{Result, Ok, Err}
+use Rattle.std.specs.Prelude.{Result, Ok, Err, IfOk}
 use Rattle.answers.specs.declared.refusal.Refusal.{Refusal}
-use Rattle.answers.specs.Means.{number, packed_means}
+use Rattle.answers.specs.Means.{number, packed_means, unpacked_means}
 use Rattle.answers.specs.Lent.{leaves, itself}
 use Rattle.words.specs.declared.family.Family.{Family}
 use Rattle.words.specs.declared.family.Family.TheVariants.{Round as round, Square as square}
@@ -45,6 +45,7 @@ use Rattle.format.proofs.Passes.{opens_passes}
 use Rattle.format.proofs.Refusals.{pack_crosses}
 use Rattle.packing.proofs.Outcomes.{declined}
 use Rattle.giving.specs.Desk.{returned, Small}
+use Rattle.giving.proofs.Room.{number_slot}
 use Rattle.pmap.proofs.Given.{slot_same}
 
 -- ---- the bytes of a drawing's map
@@ -194,6 +195,9 @@ module _ (s : List ℕ) (t k : ℕ) where
       (open_checks s ++ (check 16 (leb (2 * (size_in s).m) t && leb (size_in s).m k) Unit ∷ [])) (answer (drawing_of (word_in s))) refl
       (λ q. let z = (none_append (open_checks s) (check 16 (leb (2 * (size_in s).m) t && leb (size_in s).m k) Unit ∷ []) refl q).0 in omega (arith, (opens_passes s z).m_most, table_length (λ e. family_bit ((word_in s).letter (position_in (word_in s) (2 * e))).family) ((word_in s).size / 2)))
       (λ j xs l. omega arith))
+
+  pub unpack_fits : (r : Result ℕ Refusal) → unpacked_means r ≡ told borders (unpack_of s t k) → IfOk r (λ (x : ℕ). x < 65536)
+  unpack_fits r e = number_slot r (unpack_small (unpacked_means r) e)
 
   pub unpack_status : (r : ℕ) (a : Answer ℕ) → r ≡ number_of a → a ≡ told borders (unpack_of s t k) → r ≡ number_of (unpack_of s t k)
   unpack_status r a h e = h ∙ ap number_of e ∙ number_borders (unpack_of s t k)

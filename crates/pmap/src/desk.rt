@@ -10,6 +10,7 @@ ghost use Rattle.format.specs.Packs.{PackReturns};
 use giving::{give, give_length};
 
 // Marks of a spanning tree go to `marks`.
+#[tactic(auto, unfolding(answers::specs::Answer::number_of))]
 #[unsafe(no_mangle)]
 pub extern "C" fn pmap_marks(turning: &[u16], marks: &mut [u8], work: &mut [u16]) -> u8
     ensures { (s : ℕ) → Suggests (lent turning.now marks.old s)
@@ -38,7 +39,7 @@ pub extern "C" fn pmap_pack(
 }
 
 // The drawing of a map goes to the two lists, m to a slot.
-#[tactic(auto, using(crate::proofs::Drawings::unpack_small, crate::proofs::Drawings::unpack_status))]
+#[tactic(auto, using(crate::proofs::Drawings::unpack_fits, crate::proofs::Drawings::unpack_status))]
 #[unsafe(no_mangle)]
 pub extern "C" fn pmap_unpack(map: &[u8], turning: &mut [u16], marks: &mut [u8], m: &mut u16) -> u8
     ensures value { result ≡ number_of (unpack_of map.now (size turning.old) (size marks.old)) }
