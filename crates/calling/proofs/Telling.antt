@@ -35,7 +35,7 @@ use Rattle.walking.proofs.Decoded.{places_most}
 use Rattle.surveying.specs.Surveyed.{Surveyed}
 use Rattle.calling.specs.Codes.{meant}
 use Rattle.calling.specs.declared.codes.Call as code
-use Rattle.calling.specs.Told.{found_reply, place_from, Finds, Gives}
+use Rattle.calling.specs.Told.{found_reply, place_from, Sorted, Finds, Gives}
 use Rattle.calling.specs.declared.calls.Found.{Found}
 use Rattle.std.specs.Prelude.{Ok, Err}
 use Rattle.answers.specs.declared.refusal.Refusal.{Refusal}
@@ -60,7 +60,7 @@ place_at s i n o m hn l =
 
 module _ (s ms rs ps : List ℕ) (S : Surveyed s ms rs ps) (c : Call) (i : ℕ) where
   refused_here : (0 < i → i ≤ bits_a (size_in s) → ⊥) → Gives c (map_answer s c i) i (Err Refusal.NoPlace)
-  refused_here n = rw (call_outside s S.opens c i n) (record { means = refl; place = refl; fits = tt })
+  refused_here n = rw (call_outside s S.opens c i n) (record { means = refl; place = refl; sort = tt; fits = tt })
 
   pub tells_no_place : i ≡ 0 → Gives c (map_answer s c i) i (Err Refusal.NoPlace)
   tells_no_place e = refused_here (λ l h. omega arith)
@@ -72,7 +72,7 @@ module _ (s ms rs ps : List ℕ) (S : Surveyed s ms rs ps) (c : Call) (i : ℕ) 
       → Gives c (map_answer s c i) i (Ok f)
   tells_inside n f m hn l F =
       let e : map_answer s c i ≡ answer (found_reply f) = call_inside s S.opens c i (omega arith) (omega arith) ∙ ap answer (sym F.is) in
-      rw e (record { means = refl; place = F.leads i; fits = F.fits })
+      rw e (record { means = refl; place = F.leads i; sort = F.sort; fits = F.fits })
 
 -- ---- the entry of a turn
 pub entry_signed : (t : Turn) → t.round ≡ true → t.place.0 + gone_round_bit ≡ entry_of (turn_reply t)
@@ -96,30 +96,30 @@ value_fits s c p r P e =
 
 module _ (s : List ℕ) (p : ℕ) (P : Position s p) where
   found_of : (c : Call) (f : Found) → found_reply f ≡ reply_in (word_in s) c p → ((q : ℕ) → place_from f q ≡ place_after c (answer (found_reply f)) q)
-      → Finds (word_in s) c p f
-  found_of c f e k = record { is = e; leads = k; fits = value_fits s c p (found_reply f) P e }
+      → Sorted c f → Finds (word_in s) c p f
+  found_of c f e k o = record { is = e; leads = k; sort = o; fits = value_fits s c p (found_reply f) P e }
 
   module _ (k : code.Call) where
     pub found_cross : (r : ℕ) → k ≡ code.Call.Cross → r ≡ mate_in (word_in s) p → Finds (word_in s) (meant k) p (Found.To (record { 0 = r + 1 }))
     unfolding move_in sign_in
-    found_cross r h e = rw h (found_of Call.cross (Found.To (record { 0 = r + 1 })) (ap unsigned (omega arith)) (λ q. refl))
+    found_cross r h e = rw h (found_of Call.cross (Found.To (record { 0 = r + 1 })) (ap unsigned (omega arith)) (λ q. refl) tt)
 
     pub found_turn : (r : Turn) → k ≡ code.Call.Turn → turn_reply r ≡ reply_in (word_in s) Call.turn p → Finds (word_in s) (meant k) p (Found.Turned r)
-    found_turn r h e = rw h (found_of Call.turn (Found.Turned r) e (λ q. refl))
+    found_turn r h e = rw h (found_of Call.turn (Found.Turned r) e (λ q. refl) tt)
 
     pub found_turn_back : (r : Turn) → k ≡ code.Call.TurnBack → turn_reply r ≡ reply_in (word_in s) Call.turn_back p
         → Finds (word_in s) (meant k) p (Found.Turned r)
-    found_turn_back r h e = rw h (found_of Call.turn_back (Found.Turned r) e (λ q. refl))
+    found_turn_back r h e = rw h (found_of Call.turn_back (Found.Turned r) e (λ q. refl) tt)
 
     pub found_along : (r : ℕ) → k ≡ code.Call.Along → r ≡ step (seen square (word_in s)) (bits_a (size_in s)) p
         → Finds (word_in s) (meant k) p (Found.To (record { 0 = r + 1 }))
     unfolding move_in sign_in word_in
-    found_along r h e = rw h (found_of Call.along (Found.To (record { 0 = r + 1 })) (ap unsigned (omega arith)) (λ q. refl))
+    found_along r h e = rw h (found_of Call.along (Found.To (record { 0 = r + 1 })) (ap unsigned (omega arith)) (λ q. refl) tt)
 
     pub found_point : (r : Point) → k ≡ code.Call.Point → r.0 ≡ number (seen round (word_in s)) p → Finds (word_in s) (meant k) p (Found.About r)
     unfolding move_in sign_in
-    found_point r h e = rw h (found_of Call.point (Found.About r) (ap unsigned e) (λ q. refl))
+    found_point r h e = rw h (found_of Call.point (Found.About r) (ap unsigned e) (λ q. refl) tt)
 
     pub found_area : (r : Area) → k ≡ code.Call.Area → r.0 ≡ number (seen square (word_in s)) p → Finds (word_in s) (meant k) p (Found.On r)
     unfolding move_in sign_in
-    found_area r h e = rw h (found_of Call.area (Found.On r) (ap unsigned e) (λ q. refl))
+    found_area r h e = rw h (found_of Call.area (Found.On r) (ap unsigned e) (λ q. refl) tt)

@@ -4,6 +4,7 @@ ghost use Rattle.format.specs.Bytes.{word_in};
 ghost use Rattle.format.specs.Calls.{map_answer};
 ghost use Rattle.format.specs.Sessions.{call_of, entry_of};
 ghost use Rattle.walking.specs.Positions.{Position};
+ghost use Rattle.surveying.specs.Surveyed.{Surveyed};
 ghost use Rattle.answers.specs.Means.{turn_reply};
 ghost use Rattle.calling.specs.Codes.{meant};
 ghost use Rattle.calling.specs.Told.{found_reply, place_from, Fits, Finds, Gives};
@@ -66,16 +67,31 @@ fn signed(turn: Turn) -> usize
     if turn.round { at.0 + GONE_ROUND } else { at.0 }
 }
 
-// One call at a place, by its code; a code of no call asks for the area. NoPlace: "place not 1 to 2m".
+// One call at a place, by its code; a code of no call asks for the area. NoPlace: "place not 1 to 2m". The lists are lent one by
+// one: whoever has them need not have a Survey.
 #[tactic(auto, using(crate::proofs::Coded::call_read))]
-pub fn tell(survey: &Survey, code: u8, place: Place) -> Result<Found, Refusal>
-    ensures { Gives (call_of code) (map_answer survey.now.map.now (call_of code) place.0) place.0 result }
+pub fn tell(
+    map: &[u8],
+    mates: &[u16],
+    areas: &[u16],
+    points: &[u16],
+    code: u8,
+    place: Place,
+) -> Result<Found, Refusal>
+    requires { Surveyed map.now mates.now areas.now points.now }
+    ensures { Gives (call_of code) (map_answer map.now (call_of code) place.0) place.0 result }
 {
     let call = Call::try_from(code).unwrap_or(Call::Area);
-    tell_call(survey, call, place)
+    let survey = Survey {
+        map,
+        mates,
+        areas,
+        points,
+    };
+    tell_call(&survey, call, place)
 }
 
-// The same by the call.
+// The same by the call, of a Survey.
 #[tactic(auto, using(crate::proofs::Telling::tells_no_place, crate::proofs::Telling::tells_past, crate::proofs::Telling::place_at, crate::proofs::Telling::tells_inside))]
 fn tell_call(survey: &Survey, call: Call, place: Place) -> Result<Found, Refusal>
     ensures { Gives (meant call) (map_answer survey.now.map.now (meant call) place.0) place.0 result }

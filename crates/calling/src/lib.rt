@@ -6,9 +6,9 @@
 //       place_after   the place after it
 //       entry         the number that stands for it in a list of answers
 //
-// Conventions. The place is any number. It is looked up in a Survey of the crate `surveying`, whose bytes open and whose lists are
-// those of its map; where they are empty, by walking through the bytes. tell asks nothing of its caller; an entry is asked for
-// where the number leaves bit 15 free, as it does in what tell finds.
+// Conventions. The place is any number. It is looked up in lists of the map, as a Survey of the crate `surveying` has them; where they
+// are empty, by walking through the bytes. tell asks that the bytes open and the lists are those of the map (`Surveyed`); an entry is
+// asked for where the number leaves bit 15 free, as it does in what tell finds. What tell finds is of the sort that the call asks for.
 //
 // The source is document 01, "The drawing's book" and "Moves". The definitions that the contract cites are those of the crate
 // `format`, specs/Calls and specs/Sessions, and specs/Codes.antt and specs/Told.antt.

@@ -112,7 +112,7 @@ module _ (l : List ℕ) (k : ℕ) where
       counting_end w h = let e : i ≡ length l = omega arith in C.count ∙ ap (λ x. others_in l x k) e
 
       module _ (h : i < length l) (j : ℕ) (hj : j ≡ get_or l i 0) (n : ℕ) (hn : n ≡ from_bool (not (get_or met j false))) where
-        area_index : j < 2050
+        pub area_index : j < 2050
         area_index = omega (arith, B.each i h)
 
         others_few : others_in l i k ≤ 2049

@@ -52,8 +52,9 @@ pub fn pair(
         number: [1; 2],
         reached: [1; 2],
         opened: [0; 2052],
-        labels: [1; 2052],
+        labels: [0; 2052],
     };
+    stacks.labels.fill(1); // in its place: a list of ones in the struct is made elsewhere and copied
     let mut unread = [bstar, b];
     fill(
         a,

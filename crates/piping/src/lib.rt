@@ -7,9 +7,9 @@
 //
 // Conventions. The bytes read stand at the start of the memory lent. An input that fills the memory counts as read to
 // its end, and nothing more of it is read: a program reads one byte more than its longest input has, or
-// knows what it prints for the bytes that fit. `run` asks that its memory is below 2 ^ 63 bytes, and a program's `respond` that no more
-// bytes were read than there are; the others ask nothing. A program lends the streams of its runtime, of whose bytes nothing is
-// known; of a reader whose bytes are known, the contract of `read_input` says which were read.
+// knows what it prints for the bytes that fit. No function asks anything of its caller; a program's `respond`, which `run` alone
+// calls, asks that no more bytes were read than there are. A program lends its memory, and the streams of its runtime, of whose
+// bytes nothing is known; of a reader whose bytes are known, the contract of `read_input` says which were read.
 //
 // The sources are document 01, "Listing": the program "reads a drawing from standard input"; and document 02, 1/14:
 // "A program reads a map's bytes from standard input and prints it". The crate `text`, specs/Heard, says what a program prints where

@@ -1,5 +1,5 @@
 // A program that reads its standard input and prints what it makes of it.
-ghost use Rattle.std.specs.Prelude.{◌≡◌, ◌<◌, ◌≤◌, ◌^◌, List, ℕ, length, take};
+ghost use Rattle.std.specs.Prelude.{◌≡◌, ◌≤◌, List, ℕ, length, take};
 ghost use Rattle.answers.specs.Lent.{laid};
 ghost use Rattle.text.specs.Heard.{heard};
 ghost use Rattle.piping.specs.Input.{got_of, next_of};
@@ -21,18 +21,16 @@ pub trait Program<const ROOM: usize> {
         ensures out_after { out.new ≡ laid (heard (next_of read) (whole (take (got_of read) bytes.now)) cut) out.old };
 }
 
-// Reads the input until it ends or LIMIT bytes are read, and prints what the program P makes of them. No memory has 2 ^ 63 bytes.
-pub fn run<const LIMIT: usize, const ROOM: usize, P: Program<ROOM>>(
+// Reads the input until it ends or `bytes` is full, and prints what the program P makes of it in `out`.
+pub fn run<const ROOM: usize, P: Program<ROOM>>(
     input: &mut impl Read,
     output: &mut impl Write,
     errors: &mut impl Write,
     name: &[u8],
-)
-    requires { (LIMIT < 2 ^ 63) × (ROOM < 2 ^ 63) }
-{
-    let mut bytes = [0; LIMIT];
-    let read = read_input(input, &mut bytes);
-    let mut out = [0; ROOM];
-    let n = P::respond(&bytes, read, &mut out);
+    bytes: &mut [u8],
+    out: &mut [u8; ROOM],
+) {
+    let read = read_input(input, bytes);
+    let n = P::respond(bytes, read, out);
     print(output, errors, &out[..n], name);
 }

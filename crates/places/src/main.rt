@@ -2,6 +2,7 @@
 // refusal (document 01, "Listing").
 #![tactic(auto)]
 
+ghost use Rattle.std.specs.Prelude.{◌≡◌, length};
 ghost use Rattle.text.specs.Listing.{refused_line, places_of};
 
 use answers::Refusal;
@@ -12,11 +13,13 @@ use printout::ROOM;
 const LIMIT: usize = 43034;
 
 fn main(rt: HostRuntime) {
-    run::<LIMIT, ROOM, Places>(
+    run::<ROOM, Places>(
         &mut rt.stdin(),
         &mut rt.stdout(),
         &mut rt.stderr(),
         b"places",
+        &mut input(),
+        &mut output(),
     );
 }
 
@@ -35,4 +38,18 @@ impl Program<ROOM> for Places {
             Err(_) => listing::refused(u8::from(Refusal::Text), out),
         }
     }
+}
+
+// The memory of the input. A function, so that a contract holds its length to the bound of `cut_same` of the crate `text`.
+fn input() -> [u8; LIMIT]
+    ensures { 43034 ≡ length result }
+{
+    [0; LIMIT]
+}
+
+// The room of the longest output.
+fn output() -> [u8; ROOM]
+    ensures { 90138 ≡ length result }
+{
+    [0; ROOM]
 }

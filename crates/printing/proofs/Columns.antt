@@ -118,7 +118,7 @@ module _ (old : List ℕ) (end x : ℕ) where
 pub ruleset digits_all = (digits_start, digits_left, digits_room, digits_more, first_left, first_room, digits_end, rules)
 
 -- ---- a whole column
-column_wrote : (old mid new : List ℕ) (at w x end : ℕ) → length (decimal x) ≤ w → at + w ≤ length old → Wrote old at (replicate w space) end mid
+pub column_wrote : (old mid new : List ℕ) (at w x end : ℕ) → length (decimal x) ≤ w → at + w ≤ length old → Wrote old at (replicate w space) end mid
     → Wrote mid (end - length (decimal x)) (decimal x) end new → Wrote old at (aligned w x) end new × (end ≡ at + w)
 unfolding aligned
 column_wrote old mid new at w x end fits room S D =

@@ -87,7 +87,7 @@ one_digit x h = sym (ap length (decimal_small x h))
 pub more_digits : (x : ℕ) → 10 ≤ x → length (decimal x) ≡ length (decimal (x / 10)) + 1
 more_digits x h = ap length (decimal_more x h) ∙ length-append (decimal (x / 10)) ((zero_byte + x % 10) ∷ [])
 
-digits_are : (n x : ℕ) → 10 ^ suc n ≤ x → x < 10 ^ suc (suc n) → suc (suc n) ≡ length (decimal x)
+pub digits_are : (n x : ℕ) → 10 ^ suc n ≤ x → x < 10 ^ suc (suc n) → suc (suc n) ≡ length (decimal x)
 digits_are zero x g l = omega (arith, more_digits x g, one_digit (x / 10) (omega arith))
 digits_are (suc n) x g l =
     let p : 10 ^ suc (suc n) ≡ 10 * 10 ^ suc n = pow-succ' 10 (suc n) in

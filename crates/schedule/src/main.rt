@@ -1,6 +1,8 @@
 // Reads the bytes of a map from standard input and prints the schedule of its areas, or the line of a refusal (document 02, 1/14).
 #![tactic(auto)]
 
+ghost use Rattle.std.specs.Prelude.{◌≡◌, ◌+◌, length};
+ghost use Rattle.format.specs.Bytes.{longest};
 ghost use Rattle.text.specs.Listing.{refused_line};
 ghost use Rattle.text.specs.Schedule.{schedule_of};
 
@@ -13,11 +15,13 @@ use scheduling::ROOM;
 const LIMIT: usize = LONGEST + 1;
 
 fn main(rt: HostRuntime) {
-    run::<LIMIT, ROOM, Schedule>(
+    run::<ROOM, Schedule>(
         &mut rt.stdin(),
         &mut rt.stdout(),
         &mut rt.stderr(),
         b"schedule",
+        &mut input(),
+        &mut output(),
     );
 }
 
@@ -36,4 +40,18 @@ impl Program<ROOM> for Schedule {
             Err(_) => scheduling::refused(u8::from(Refusal::Header), out),
         }
     }
+}
+
+// The memory of the input. A function, so that a contract holds its length to the bound of `schedule_cut` of the crate `text`.
+fn input() -> [u8; LIMIT]
+    ensures { longest + 1 ≡ length result }
+{
+    [0; LIMIT]
+}
+
+// The room of the longest output.
+fn output() -> [u8; ROOM]
+    ensures { 41853 ≡ length result }
+{
+    [0; ROOM]
 }

@@ -40,7 +40,7 @@ fn put_schedule(map: OpenMap<'_>, out: &mut [u8; ROOM]) -> usize
 {
     let mut sides = [0u16; MOST_AREAS];
     let mut firsts = [0u16; MOST_AREAS];
-    tally(map, &mut sides, &mut firsts);
+    tally(map.bytes, &mut sides, &mut firsts);
     put_tallied(map, &sides, &firsts, out)
 }
 

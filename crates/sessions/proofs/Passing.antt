@@ -98,7 +98,7 @@ module _ (s : List ℕ) (first : ℕ) (ks st₀ an₀ : List ℕ) where
       }
 
   module _ (st an : List ℕ) (p i : ℕ) (R : Partway st an p i) where
-    partway_more : (x y q : ℕ) → i < length ks → x ≡ number_of (answer_here p i) → y ≡ entry (answer_here p i) → q ≡ place_after (call_here i) (answer_here p i) p
+    pub partway_more : (x y q : ℕ) → i < length ks → x ≡ number_of (answer_here p i) → y ≡ entry (answer_here p i) → q ≡ place_after (call_here i) (answer_here p i) p
         → Partway (set st i x) (set an i y) q (i + 1)
     partway_more x y q l hx hy hq =
         let c : Call = call_here i in

@@ -94,7 +94,14 @@ fn run(
 {
     let mut place = first;
     for (i, &code) in calls.iter().enumerate() {
-        match tell(survey, code, place) {
+        match tell(
+            survey.map,
+            survey.mates,
+            survey.areas,
+            survey.points,
+            code,
+            place,
+        ) {
             Ok(found) => {
                 statuses[i] = 0;
                 answers[i] = found.entry();

@@ -33,7 +33,12 @@ impl Lists {
         ensures of_map { result.map.now ≡ map.entry.bytes.now }
         ensures whole { (4096 ≡ length result.mates.now) × (4096 ≡ length result.areas.now) × (4096 ≡ length result.points.now) }
     {
-        survey(map, &mut self.mates, &mut self.areas, &mut self.points);
+        survey(
+            map.bytes,
+            &mut self.mates,
+            &mut self.areas,
+            &mut self.points,
+        );
         Survey {
             map: map.bytes,
             mates: &self.mates,

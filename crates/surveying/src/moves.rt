@@ -1,6 +1,6 @@
 // Moves and numbers, looked up in the lists of a map. What a list has no entry for is found by walking through the bytes: few
 // questions are cheaper that way, and an empty list serves them.
-ghost use Rattle.std.specs.Prelude.{◌≡◌};
+ghost use Rattle.std.specs.Prelude.{◌≡◌, length};
 ghost use Rattle.words.specs.Brackets.{mate, step, back, number};
 ghost use Rattle.words.specs.declared.family.Family.TheVariants.{Round as round, Square as square};
 ghost use Rattle.words.specs.Word.{seen, mate_in};
@@ -28,7 +28,8 @@ pub struct Survey<'a> {
 impl<'a> Survey<'a> {
     // Empty lists: whatever is asked is found by walking.
     pub fn empty(map: OpenMap<'a>) -> Survey<'a>
-        ensures { result.map.now ≡ map.entry.bytes.now }
+        ensures of_map { result.map.now ≡ map.entry.bytes.now }
+        ensures none { (length result.mates.now ≡ 0) × (length result.areas.now ≡ 0) × (length result.points.now ≡ 0) }
     {
         Survey {
             map: map.bytes,

@@ -1,27 +1,37 @@
 // Counting the sides of all areas in one loop over the places of a map.
 ghost use Rattle.std.specs.Prelude.{◌≡◌, ◌<◌, ◌≤◌, length};
 ghost use Rattle.answers.specs.Lent.{laid};
+ghost use Rattle.format.specs.Open.{open_refusal};
 ghost use Rattle.tallying.specs.Tallied.{sides_in, firsts_in, Blank, Tallied, entry_at, HasEntry, Noted};
 
 use crate::entries::index_of;
 use answers::{Area, Place};
 use layout::bits_a;
-use opening::OpenMap;
-use surveying::{Lists, Survey};
+use surveying::{Survey, survey};
 
 // The most areas of a map: 2,048 borders on one point.
 pub const MOST_AREAS: usize = 2049;
 
 // Fills the lists of a map: how many sides each area has, and its first place. Two lists, not one of pairs: the contract of `tally`,
 // which docs/AUDIT.md cites, says of each what it holds after.
-pub fn tally(map: OpenMap<'_>, sides: &mut [u16; MOST_AREAS], firsts: &mut [u16; MOST_AREAS])
-    requires { Blank sides.old × Blank firsts.old }
-    ensures sides_after { sides.new ≡ laid (sides_in map.entry.bytes.now) sides.old }
-    ensures firsts_after { firsts.new ≡ laid (firsts_in map.entry.bytes.now) firsts.old }
-    ensures tallied { Tallied map.entry.bytes.now sides.new firsts.new }
+pub fn tally(map: &[u8], sides: &mut [u16; MOST_AREAS], firsts: &mut [u16; MOST_AREAS])
+    requires { (open_refusal map.now ≡ 0) × Blank sides.old × Blank firsts.old }
+    ensures sides_after { sides.new ≡ laid (sides_in map.now) sides.old }
+    ensures firsts_after { firsts.new ≡ laid (firsts_in map.now) firsts.old }
+    ensures tallied { Tallied map.now sides.new firsts.new }
 {
-    let mut lists = Lists::new();
-    count_sides(&lists.survey(map), sides, firsts);
+    // Three lists and no `Lists`: only that of the areas is read, and the others are then not cleared and take no stack.
+    let mut mates = [0u16; 4096];
+    let mut areas = [0u16; 4096];
+    let mut points = [0u16; 4096];
+    survey(map, &mut mates, &mut areas, &mut points);
+    let survey = Survey {
+        map,
+        mates: &mates,
+        areas: &areas,
+        points: &points,
+    };
+    count_sides(&survey, sides, firsts);
 }
 
 // Each place is a side of its area. They are met from the last down, so that the place stored last for an area is its first: nothing

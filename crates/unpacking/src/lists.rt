@@ -46,7 +46,7 @@ fn write(map: OpenMap<'_>, turning: &mut [u16], marks: &mut [u8])
     let mut mates = [0u16; 4096];
     let mut areas = [0u16; 4096];
     let mut points = [0u16; 4096];
-    survey(map, &mut mates, &mut areas, &mut points);
+    survey(map.bytes, &mut mates, &mut areas, &mut points);
     // The areas and the points are not asked for: the ends go into the list of the areas.
     write_from(map, &mates, &mut areas, turning, marks);
 }
