@@ -7,6 +7,9 @@ use Prim.Native.Nat.{ℕ}
 use Rattle.answers.specs.Answer.{answer, refused_with, refused, number_of, told, Kind, no_such}
 use Rattle.answers.specs.Checks.{Check, check, refusal_in, after}
 use Rattle.answers.specs.Lent.{laid, leaves, itself, cleared}
+use Rattle.answers.specs.Means.{packing_said}
+use Rattle.answers.specs.declared.refusal.Refusal.{Refusal}
+use Rattle.std.specs.Prelude.{Err}
 
 abbrev tested : ℕ → Bool → Check
 tested k t = check k t Unit
@@ -27,6 +30,9 @@ pub record Cases : Type 0 where
   pub two_cleared : cleared 2 (7 ∷ 8 ∷ 9 ∷ []) ≡ 0 ∷ 0 ∷ 9 ∷ []
   pub no_point : no_such Kind.point ≡ 14
   pub no_area : no_such Kind.area ≡ 15
+  -- where there is no map, a rehearsal says packing's refusal
+  pub no_map : packing_said (Err Refusal.Room) ≡ refused 2
+  pub no_map_crossing : packing_said (Err (Refusal.Crossing 1 4)) ≡ refused_with 7 (1 ∷ 4 ∷ [])
 
 pub cases : Cases
 unfolding number_of leaves cleared
@@ -44,4 +50,6 @@ cases =
       two_cleared = refl;
       no_point = refl;
       no_area = refl;
+      no_map = refl;
+      no_map_crossing = refl;
     }

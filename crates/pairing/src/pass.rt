@@ -54,7 +54,8 @@ pub fn pair(
         opened: [0; 2052],
         labels: [0; 2052],
     };
-    stacks.labels.fill(1); // in its place: a list of ones in the struct is made elsewhere and copied
+    // Filled in its place: a list of ones in the literal is made elsewhere and copied in, by a `memcpy` that the archives for C do without.
+    stacks.labels.fill(1);
     let mut unread = [bstar, b];
     fill(
         a,

@@ -12,7 +12,8 @@
 // the stack of whoever calls, with room for the largest map; the entries beyond the last position stay as they were.
 // A Survey looks up in its lists. For a position that a list has no entry for it walks through the bytes as the crate
 // `walking` does, so that empty lists serve where few places are asked about. The bytes of a Survey open: it is
-// made of an OpenMap, and whoever is given one need not ask. survey is lent bytes, and asks that they open.
+// made of an OpenMap, or of bytes and lists of which that is known; whoever is given one need not ask. survey is lent bytes, and
+// asks that they open.
 //
 // The pass is that of the crate `pairing`, which reads A, B and B* once, forwards, and knows no map. The source is document
 // 01, "Tour and packed map" and "Moves": the area of a place is that of the innermost [ open just before it, its point that of

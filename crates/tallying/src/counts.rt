@@ -20,7 +20,8 @@ pub fn tally(map: &[u8], sides: &mut [u16; MOST_AREAS], firsts: &mut [u16; MOST_
     ensures firsts_after { firsts.new ≡ laid (firsts_in map.now) firsts.old }
     ensures tallied { Tallied map.now sides.new firsts.new }
 {
-    // Three lists and no `Lists`: only that of the areas is read, and the others are then not cleared and take no stack.
+    // Three lists and no `Lists`: only that of the areas is read, and the compiler drops the other two, which it keeps and clears in a
+    // `Lists`.
     let mut mates = [0u16; 4096];
     let mut areas = [0u16; 4096];
     let mut points = [0u16; 4096];
